@@ -1,0 +1,4 @@
+pub mod Choice
+pub mod Frame
+pub mod Word
+pub mod Refusal

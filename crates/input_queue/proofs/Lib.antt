@@ -1,0 +1,4 @@
+pub mod Cases
+pub mod Fills
+pub mod Answers
+pub mod Held

@@ -1,0 +1,5 @@
+pub mod Queue
+pub mod Ring
+pub mod Calls
+pub mod Whole
+pub mod Value

@@ -1,0 +1,184 @@
+// The queue as one value, its ring inside. Each method lends its own ring to the call of the same
+// name, and puts the queue together again.
+use crate::Added;
+use crate::Delayed;
+use crate::Found;
+use crate::QueueState;
+use crate::Served;
+use frame_info::PlayerInput;
+ghost use mathlib.Core.Path.{_≡_};
+ghost use lib.IntN.{ℤ};
+ghost use Rattle.input_queue.specs.Calls as calls;
+ghost use Rattle.input_queue.specs.Value as held;
+ghost use Rattle.input_queue.specs.Whole.{Whole};
+
+pub struct InputQueue {
+    pub predictor: u32,
+    pub state: QueueState,
+    pub inputs: [u32; 128],
+}
+
+pub struct OpenedQueue {
+    pub no: u32,
+    pub queue: InputQueue,
+}
+
+pub struct AddedQueue {
+    pub no: u32,
+    pub place: i32,
+    pub queue: InputQueue,
+}
+
+pub struct ServedQueue {
+    pub no: u32,
+    pub word: u32,
+    pub confirmed: bool,
+    pub queue: InputQueue,
+}
+
+pub struct DiscardedQueue {
+    pub no: u32,
+    pub queue: InputQueue,
+}
+
+pub struct DelayedQueue {
+    pub no: u32,
+    pub first: i32,
+    pub count: u32,
+    pub word: u32,
+    pub queue: InputQueue,
+}
+
+impl InputQueue {
+    pub fn new(predictor: u32, delay: u32) -> OpenedQueue
+        ensures { λ r. ⌜ r ≡ held.opened predictor delay ⌝ }
+    {
+        let o = crate::new(predictor, delay);
+        let state = o.state;
+        OpenedQueue {
+            no: o.no,
+            queue: InputQueue {
+                predictor: o.predictor,
+                state,
+                inputs: [0u32; 128],
+            },
+        }
+    }
+
+    pub fn add_input(self, input: PlayerInput) -> AddedQueue
+        requires { ⌜ held.Whole self ⌝ }
+        ensures { λ r. ⌜ r ≡ held.addInput self input ⌝ }
+    {
+        let mut q = self;
+        let s = self.state;
+        let a = add_in(&mut q.inputs, s, input);
+        let state = a.state;
+        q.state = state;
+        AddedQueue {
+            no: a.no,
+            place: a.place,
+            queue: q,
+        }
+    }
+
+    pub fn input(self, frame: i32) -> ServedQueue
+        requires { ⌜ held.Whole self ⌝ }
+        ensures { λ r. ⌜ r ≡ held.served self frame ⌝ }
+    {
+        let mut q = self;
+        let s = self.state;
+        let a = ask_in(&q.inputs, s, self.predictor, frame);
+        let state = a.state;
+        q.state = state;
+        ServedQueue {
+            no: a.no,
+            word: a.word,
+            confirmed: a.confirmed,
+            queue: q,
+        }
+    }
+
+    pub fn confirmed_input(self, frame: i32) -> Found
+        requires { ⌜ held.Whole self ⌝ }
+        ensures { λ r. ⌜ r ≡ calls.found (self .inputs) 0 (self .state) frame ⌝ }
+    {
+        let s = self.state;
+        let words = self.inputs;
+        find_in(&words, s, frame)
+    }
+
+    pub fn discard_confirmed_frames(self, frame: i32) -> DiscardedQueue
+        ensures { λ r. ⌜ r ≡ held.discarded self frame ⌝ }
+    {
+        let s = self.state;
+        let d = crate::discard_confirmed_frames(s, frame);
+        let state = d.state;
+        let mut q = self;
+        q.state = state;
+        DiscardedQueue { no: d.no, queue: q }
+    }
+
+    pub fn reset_prediction(self) -> InputQueue
+        ensures { λ r. ⌜ r ≡ held.reset self ⌝ }
+    {
+        let s = self.state;
+        let mut q = self;
+        q.state = crate::reset_prediction(s);
+        q
+    }
+
+    pub fn set_frame_delay(self, delay: u32) -> DelayedQueue
+        requires { ⌜ held.Whole self ⌝ }
+        ensures { λ r. ⌜ r ≡ held.delayedTo self delay ⌝ }
+    {
+        let mut q = self;
+        let s = self.state;
+        let d = delay_in(&q.inputs, s, delay);
+        let state = d.state;
+        q.state = state;
+        DelayedQueue {
+            no: d.no,
+            first: d.first,
+            count: d.count,
+            word: d.word,
+            queue: q,
+        }
+    }
+
+    pub fn first_incorrect_frame(self) -> i32
+        ensures { λ r. ⌜ r ≡ calls.firstIncorrect (self .state) ⌝ }
+    {
+        let s = self.state;
+        crate::first_incorrect_frame(s)
+    }
+}
+
+// The ring as the calls' slice: an array that is a field is lent as an array first.
+fn add_in(words: &mut [u32; 128], s: QueueState, input: PlayerInput) -> Added
+    requires { ⌜ Whole (now words) 0 s ⌝ }
+    ensures { λ r. ⌜ (r ≡ calls.addInput (now (words .entry)) 0 s input)
+        × (now (words .exit) ≡ calls.inputWords (now (words .entry)) 0 s input) ⌝ }
+{
+    crate::add_input(words, 0, s, input)
+}
+
+fn ask_in(words: &[u32; 128], s: QueueState, predictor: u32, frame: i32) -> Served
+    requires { ⌜ Whole (now words) 0 s ⌝ }
+    ensures { λ r. ⌜ r ≡ calls.served (now (words .entry)) 0 s predictor frame ⌝ }
+{
+    crate::input(words, 0, s, predictor, frame)
+}
+
+fn find_in(words: &[u32; 128], s: QueueState, frame: i32) -> Found
+    requires { ⌜ Whole (now words) 0 s ⌝ }
+    ensures { λ r. ⌜ r ≡ calls.found (now (words .entry)) 0 s frame ⌝ }
+{
+    crate::confirmed_input(words, 0, s, frame)
+}
+
+fn delay_in(words: &[u32; 128], s: QueueState, delay: u32) -> Delayed
+    requires { ⌜ Whole (now words) 0 s ⌝ }
+    ensures { λ r. ⌜ r ≡ calls.delayedTo (now (words .entry)) 0 s delay ⌝ }
+{
+    crate::set_frame_delay(words, 0, s, delay)
+}
