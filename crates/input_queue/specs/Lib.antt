@@ -3,3 +3,4 @@ pub mod Ring
 pub mod Calls
 pub mod Whole
 pub mod Value
+pub mod Runs

@@ -1,0 +1,218 @@
+-- What a call presumes of a queue is given by a setup and kept by every call. Assumes nothing.
+use Prim.Native.Nat.{ℕ, zero, suc, _+_, _-_, _<_, _≤_}
+use native.Mathlib.Omega.{arith}
+use mathlib.Core.Path.{_≡_, refl, ap, sym, _∙_}
+use mathlib.Core.Bool.{true, false}
+use mathlib.Core.Logic.{_⊎_, inl, inr, ⊎-elim}
+use Prim.{absurd}
+use mathlib.Core.List.{List, [], _∷_}
+use lib.ListN.{length, set, length-set}
+use lib.Dec.{ltb, leb, eqb}
+use lib.IntN.{ℤ}
+use borrow.Author.Tests.{ltb-false, leb-true}
+use Rattle.frame_info.proofs.Split.{split-eqb, split-ltb, split-leb, split-bool}
+use Rattle.frame_info.specs.Frame.{countOf, lastCount}
+use Rattle.frame_info.specs.Word.{predicted}
+use Rattle.frame_info.specs.declared.PlayerInput.{PlayerInput}
+use Rattle.input_queue.specs.declared.QueueState.{QueueState}
+use Rattle.input_queue.specs.Queue.{freshState, newest, put, fill, used, tossed, add, asked, predictingAsked, reset, capped, oldestAfter, discard, delayed}
+use Rattle.input_queue.specs.Ring.{wordAt, putWord, fillWords, addWords}
+use Rattle.input_queue.specs.Calls as calls
+use Rattle.input_queue.specs.Whole.{Sane, Whole}
+use Rattle.input_queue.specs.Runs as runs
+use Rattle.input_queue.specs.Runs.{Queue, Call, add-call, input-call, discard-call, reset-call, delay-call}
+use Rattle.input_queue.proofs.Fills.{put-added, put-ahead, fill-added, fill-ahead}
+use Rattle.input_queue.proofs.Answers.{add-some, add-low}
+
+-- Setup
+pub fresh-sane : (d : ℕ) → d ≤ 60 → Sane (freshState d)
+fresh-sane d h =
+    record { late = h; users = omega arith; few = omega arith; kept = omega arith; ring = omega arith; ahead = omega arith }
+
+pub opened-sane : (p d : ℕ) → Sane (calls.opened p d .state)
+unfolding calls.opened
+opened-sane p d =
+    ⊎-elim
+    (λ a. ⊎-elim
+    (λ b. simp (a .1, b .1) (fresh-sane d (b .0)))
+    (λ b. simp (a .1, b .1) (fresh-sane 0 (omega arith)))
+    (split-leb d 60))
+    (λ a. simp (a .1) (fresh-sane 0 (omega arith)))
+    (split-ltb p 3)
+
+-- the fields that storing leaves alone
+record Same (s t : QueueState) : Type 0 where
+  delay : t .delay ≡ s .delay
+  user : t .user ≡ s .user
+  oldest : t .oldest ≡ s .oldest
+
+put-same : (s : QueueState) (w : ℕ) → Same s (put s w)
+unfolding put
+put-same s w = record { delay = refl; user = refl; oldest = refl }
+
+fill-same : (n : ℕ) (s : QueueState) (w : ℕ) → Same s (fill n s w)
+unfolding fill
+fill-same zero s w = record { delay = refl; user = refl; oldest = refl }
+fill-same (suc n) s w =
+    let a = fill-same n s w in
+    let b = put-same (fill n s w) w in
+    record { delay = b .delay ∙ a .delay; user = b .user ∙ a .user; oldest = b .oldest ∙ a .oldest }
+
+-- An input with room
+pub add-sane : (at : ℕ → ℕ) (s : QueueState) (f w : ℕ) → Sane s → f ≤ 1000000000 → (f + s .delay < s .added) ⊎ (f + s .delay < s .oldest + 128)
+    → Sane (add at s f w)
+unfolding add
+add-sane at s f w h g room = ⊎-elim thrown stored (split-ltb (f + s .delay) (s .added))
+  where
+    thrown : (f + s .delay < s .added) × (ltb (f + s .delay) (s .added) ≡ true) → Sane (add at s f w)
+    thrown a =
+        simp (a .1)
+        (record { late = h .late; users = omega arith; few = h .few; kept = h .kept; ring = h .ring; ahead = h .ahead })
+
+    stored : (s .added ≤ f + s .delay) × (ltb (f + s .delay) (s .added) ≡ false) → Sane (add at s f w)
+    stored a =
+        let c = newest at (s .added) in
+        let n = f + s .delay - s .added in
+        let t = fill n (used s f) c in
+        let k = fill-same n (used s f) c in
+        let j = put-same t w in
+        let e = fill-added n (used s f) c in
+        let i = put-added t w in
+        let r : f + s .delay < s .oldest + 128 = ⊎-elim (λ x. omega arith) (λ x. x) room in
+        simp (a .1)
+        (record {
+          late = omega arith;
+          users = omega arith;
+          few = omega arith;
+          kept = omega arith;
+          ring = omega arith;
+          ahead = put-ahead t w (fill-ahead n (used s f) c (h .ahead));
+        })
+
+-- what is not refused has room
+add-room : (s : QueueState) (c : ℕ) → calls.addRefusal s c ≡ 0 → (c - 1 + s .delay < s .added) ⊎ (c - 1 + s .delay < s .oldest + 128)
+unfolding calls.addRefusal
+add-room s c z =
+    ⊎-elim
+    (λ a. absurd (omega (arith, simp (a .1) at z)))
+    (λ a. ⊎-elim
+    (λ b. absurd (omega (arith, simp (a .1, b .1) at z)))
+    (λ b. ⊎-elim
+    (λ d. absurd (omega (arith, simp (a .1, b .1, d) at z)))
+    (λ d. ⊎-elim (λ e. absurd (omega (arith, simp (a .1, b .1, d, e) at z))) (λ e. fits (a .0) e) (split-bool (calls.overfull s c)))
+    (split-bool (calls.outOfTurn s c)))
+    (split-ltb lastCount c))
+    (split-eqb c 0)
+  where
+    fits : (c ≡ 0 → ⊥) → calls.overfull s c ≡ false → (c - 1 + s .delay < s .added) ⊎ (c - 1 + s .delay < s .oldest + 128)
+    fits n o =
+        ⊎-elim
+        (λ a. inl (omega (arith, n)))
+        (λ a. inr (omega (arith, n, ltb-false (s .oldest + 128) (c + s .delay) (simp (a .1) at o))))
+        (split-leb (c + s .delay) (s .added))
+
+pub asked-sane : (p at : ℕ → ℕ) (s : QueueState) (f : ℕ) → Sane s → Sane (asked p at s f)
+unfolding asked
+asked-sane p at s f h =
+    record { late = h .late; users = h .users; few = h .few; kept = h .kept; ring = h .ring; ahead = within }
+  where
+    within : predictingAsked s f ≤ s .added + 1
+    within =
+        ⊎-elim
+        (λ a. ⊎-elim (λ b. simp (a .1, b .1) (omega arith)) (λ b. simp (a .1, b .1) (omega arith)) (split-ltb f (s .added)))
+        (λ a. simp (a .1) (h .ahead))
+        (split-eqb (s .predicting) 0)
+
+pub discard-sane : (s : QueueState) (f : ℕ) → Sane s → Sane (discard s f)
+unfolding discard
+discard-sane s f h =
+    let o = within (capped s f) in
+    record { late = h .late; users = h .users; few = h .few; kept = o .0; ring = o .1; ahead = h .ahead }
+  where
+    within : (g : ℕ) → (oldestAfter s g ≤ s .added) × (s .added ≤ oldestAfter s g + 128)
+    within g =
+        ⊎-elim
+        (λ a. ⊎-elim (λ b. simp (a .1, b .1) (omega arith)) (λ b. simp (a .1, b .1) (omega arith)) (split-eqb (s .added) 0))
+        (λ a. ⊎-elim (λ b. simp (a .1, b .1) (omega arith)) (λ b. simp (a .1, b .1) (omega arith)) (split-ltb (s .oldest) g))
+        (split-leb (s .added) (g + 1))
+
+pub reset-sane : (s : QueueState) → Sane s → Sane (reset s)
+unfolding reset
+reset-sane s h =
+    record { late = h .late; users = h .users; few = h .few; kept = h .kept; ring = h .ring; ahead = omega arith }
+
+pub delayed-sane : (s : QueueState) (d : ℕ) → d ≤ 60 → Sane s → Sane (delayed s d)
+unfolding delayed
+delayed-sane s d e h =
+    record { late = e; users = h .users; few = h .few; kept = h .kept; ring = h .ring; ahead = h .ahead }
+
+-- the lent words keep their number
+fill-long : (k : ℕ) (l : List ℕ) (base n w : ℕ) → length (fillWords k l base n w) ≡ length l
+unfolding fillWords
+fill-long zero l base n w = refl
+fill-long (suc k) l base n w = simp length-set (fill-long k l base n w)
+
+pub add-long : (l : List ℕ) (base : ℕ) (s : QueueState) (f w : ℕ) → length (addWords l base s f w) ≡ length l
+unfolding addWords
+add-long l base s f w =
+    ⊎-elim
+    (λ a. simp (a .1))
+    (λ a. simp (a .1, length-set) (fill-long (f + s .delay - s .added) l base (s .added) (newest (wordAt l base) (s .added))))
+    (split-ltb (f + s .delay) (s .added))
+
+module _ (l : List ℕ) (base : ℕ) (s : QueueState) (h : Whole l base s) where
+  pub add-whole : (i : PlayerInput) → Whole (calls.inputWords l base s i) base (calls.addInput l base s i .state)
+  unfolding calls.inputWords calls.addInput
+  add-whole i =
+      ⊎-elim
+      (λ a. simp (a .1)
+      (record {
+        room = rw (add-long l base s (countOf (i .frame) - 1) (i .input)) (h .room);
+        numbers = add-sane (wordAt l base) s (countOf (i .frame) - 1) (i .input) (h .numbers) (add-low s (countOf (i .frame)) 0 (sym (a .0)) refl) (add-room s (countOf (i .frame)) (a .0));
+      }))
+      (λ a. simp (a .1) h)
+      (split-eqb (calls.addRefusal s (countOf (i .frame))) 0)
+
+  pub served-whole : (p : ℕ) (f : ℤ) → Whole l base (calls.served l base s p f .state)
+  unfolding calls.served
+  served-whole p f =
+      ⊎-elim
+      (λ a. simp (a .1) (record { room = h .room; numbers = asked-sane (predicted p) (wordAt l base) s (countOf f - 1) (h .numbers) }))
+      (λ a. simp (a .1) h)
+      (split-eqb (calls.inputRefusal s (countOf f)) 0)
+
+  pub discarded-whole : (f : ℤ) → Whole l base (calls.discarded s f .state)
+  unfolding calls.discarded
+  discarded-whole f =
+      ⊎-elim
+      (λ a. simp (a .1) h)
+      (λ a. simp (a .1) (record { room = h .room; numbers = discard-sane s (countOf f - 1) (h .numbers) }))
+      (split-eqb (countOf f) 0)
+
+  pub reset-whole : Whole l base (reset s)
+  reset-whole = record { room = h .room; numbers = reset-sane s (h .numbers) }
+
+  pub delayed-whole : (d : ℕ) → Whole l base (calls.delayedTo l base s d .state)
+  unfolding calls.delayedTo
+  delayed-whole d =
+      ⊎-elim
+      (λ a. simp (a .1) h)
+      (λ a.
+      let w : Whole l base (delayed s d) = record { room = h .room; numbers = delayed-sane s d (a .0) (h .numbers) } in
+      ⊎-elim (λ b. simp (a .1, b) w) (λ b. simp (a .1, b) w) (split-bool (calls.announces s d)))
+      (split-ltb 60 d)
+
+-- So it holds after every call, and after any run of them.
+module _ (base p : ℕ) where
+  pub after-whole : (q : Queue) (x : Call) → Whole (q .words) base (q .state) → Whole (runs.after base p q x .words) base (runs.after base p q x .state)
+  unfolding runs.after
+  after-whole q (add-call i) h = add-whole (q .words) base (q .state) h i
+  after-whole q (input-call f) h = served-whole (q .words) base (q .state) h p f
+  after-whole q (discard-call f) h = discarded-whole (q .words) base (q .state) h f
+  after-whole q reset-call h = reset-whole (q .words) base (q .state) h
+  after-whole q (delay-call d) h = delayed-whole (q .words) base (q .state) h d
+
+  pub run-whole : (q : Queue) (l : List Call) → Whole (q .words) base (q .state) → Whole (runs.run base p q l .words) base (runs.run base p q l .state)
+  unfolding runs.run
+  run-whole q [] h = h
+  run-whole q (x ∷ l) h = run-whole (runs.after base p q x) l (after-whole q x h)
