@@ -15,6 +15,7 @@ use frame_info::count_of;
 use frame_info::frame_of;
 pub use steps::ask;
 pub use steps::discard;
+pub use steps::fresh_state;
 pub use steps::newest_word;
 pub use steps::reset;
 pub use steps::store;

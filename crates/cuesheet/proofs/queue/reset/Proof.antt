@@ -1,0 +1,43 @@
+use Prim.Native.Nat.{ℕ, _+_}
+use mathlib.Core.Path.{_≡_, ap, sym, _∙_}
+use mathlib.Core.List.{List, []}
+use lib.ListN.{length, getD}
+use lib.Seq.{sets}
+use lib.IntN.{ℤ}
+use mir.Syntax.{w32}
+use mir.Val.{toZ, ofZ}
+use mir.Facts.{toZ-ofZ}
+use Rattle.cuesheet.specs.Queue.{withState, frameArg, numberArg, inputArg}
+use Rattle.cuesheet.specs.Text.{answerText, frameValue, wordValue, servedValue, fillsValue}
+use Rattle.input_queue.specs.Calls as queue
+use Rattle.input_queue.specs.declared.QueueState.{QueueState}
+use borrow.Author.Needs.{needs}
+use Rattle.cuesheet.proofs.queue.reset.Statement.{statement}
+use Rattle.cuesheet.proofs.queue.reset.Tie as tie
+use Rattle.cuesheet.proofs.queue.reset.Reads as reads
+use Rattle.cuesheet.proofs.queue.reset.Lts as lts
+use Rattle.cuesheet.proofs.text.tell_number.Reads as tell-number-reads
+use Rattle.input_queue.proofs.reset_prediction.Reads as reset-prediction-reads
+
+-- src/queue.rt:131:9
+reset-prediction-requires : tie.Need-reset-prediction-requires
+reset-prediction-requires c κs = search needs
+
+-- src/queue.rt:132:9
+tell-number-requires : tie.Need-tell-number-requires
+tell-number-requires c κs = search needs
+
+-- src/queue.rt:125:1
+same-length : tie.Need-same-length
+same-length c = search needs
+
+-- src/queue.rt:125:1
+returns : tie.Need-returns
+returns c =
+    let q = c .before .before .before .before .before .before .before .args in
+    let s = c .before .before .tell-number .ensures in
+    (ap (λ (x : QueueState). withState (q .held) x) (c .before .before .before .before .reset-prediction .ensures), s .0, s .1, s .2)
+
+pub reset-spec : {M : Type 1} → statement M
+reset-spec =
+    tie.close (tie.spec reset-prediction-requires tell-number-requires same-length returns)

@@ -1,0 +1,4 @@
+pub mod Text
+pub mod Queue
+pub mod Line
+pub mod Running

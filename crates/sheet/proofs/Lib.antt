@@ -1,0 +1,5 @@
+pub mod Finding
+pub mod Fielding
+pub mod Calling
+pub mod Handed
+pub mod Samples

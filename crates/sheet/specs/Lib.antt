@@ -1,0 +1,4 @@
+pub mod Fields
+pub mod Calls
+pub mod Reading
+pub mod Steps
