@@ -1,0 +1,9 @@
+pub mod Lists
+pub mod Masking
+pub mod Reading
+pub mod Runs
+pub mod Sums
+pub mod Packing
+pub mod Unpacking
+pub mod Answers
+pub mod Theorems

@@ -1,0 +1,4 @@
+pub mod Layout
+pub mod Promise
+pub mod Inside
+pub mod Places

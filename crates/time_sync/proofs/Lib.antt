@@ -1,0 +1,15 @@
+pub mod Sums
+pub mod Windows
+pub mod Constants
+pub mod Halves
+pub mod Values
+pub mod Bits
+pub mod Rounding
+pub mod Steps
+pub mod Meeting
+pub mod Bounds
+pub mod Sixtieth
+pub mod Exact
+pub mod Marked
+pub mod Element
+pub mod Lent

@@ -1,0 +1,39 @@
+// A sum of i32 that wraps in 32 bits. The work is done on the bits, where the kit has an add that wraps.
+use crate::WINDOW;
+ghost use mathlib.Core.Path.{_≡_};
+ghost use mir.Syntax.{w32};
+ghost use mir.Val.{toZ};
+ghost use Rattle.time_sync.specs.Sums.{residue, windowSum};
+
+// The number modulo 2^32.
+fn bits_of(x: i32) -> u32
+    ensures { λ r. ⌜ r ≡ residue x ⌝ }
+{
+    if x < 0 {
+        return 4294967295 - ((-1 - x) as u32);
+    }
+    x as u32
+}
+
+// The i32 that has these bits.
+fn of_bits(bits: u32) -> i32
+    ensures { λ r. ⌜ r ≡ toZ w32 bits ⌝ }
+{
+    if bits < 2147483648 {
+        return bits as i32;
+    }
+    -1 - ((4294967295 - bits) as i32)
+}
+
+// The sum of a window's thirty entries, modulo 2^32.
+pub fn sum(window: [i32; WINDOW]) -> i32
+    ensures { λ r. ⌜ r ≡ windowSum window ⌝ }
+{
+    let mut total: u32 = 0;
+    let mut i: usize = 0;
+    while i < WINDOW {
+        total = std::num::wrapping_add_u32(total, bits_of(window[i]));
+        i += 1;
+    }
+    of_bits(total)
+}
