@@ -1,6 +1,5 @@
 pub mod Cases
 pub mod Fills
 pub mod Answers
-pub mod Held
 pub mod Kept
 pub mod Places

@@ -2,5 +2,4 @@ pub mod Queue
 pub mod Ring
 pub mod Calls
 pub mod Whole
-pub mod Value
 pub mod Runs

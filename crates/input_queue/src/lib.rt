@@ -2,13 +2,12 @@
 //
 // The queue is eight numbers, `QueueState`, that go by value, and a ring of 128 words that the
 // caller lends: place f lies at base + f % 128. Places are stored without gaps from 0, so the ring
-// holds words alone, and place f is held while it is one of the newest 128. `InputQueue` is the
-// same queue with its ring inside, by value.
+// holds words alone, and place f is held while it is one of the newest 128. The crate
+// `input_queue_value` has the same queue with its ring inside, by value.
 //
 // Each call tests for itself. One that refuses answers its number, the state as it was given, and
 // writes nothing.
 mod steps;
-pub mod value;
 
 use frame_info::PlayerInput;
 use frame_info::count_of;

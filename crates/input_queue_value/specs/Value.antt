@@ -4,17 +4,17 @@ use lib.IntN.{ℤ}
 use lib.ListN.{replicate}
 use Rattle.frame_info.specs.Word.{blank}
 use Rattle.frame_info.specs.declared.PlayerInput.{PlayerInput}
 use Rattle.input_queue.specs.declared.QueueState.{QueueState}
-use Rattle.input_queue.specs.declared.value.InputQueue.{InputQueue}
-use Rattle.input_queue.specs.declared.value.OpenedQueue.{OpenedQueue}
-use Rattle.input_queue.specs.declared.value.AddedQueue.{AddedQueue}
-use Rattle.input_queue.specs.declared.value.ServedQueue.{ServedQueue}
-use Rattle.input_queue.specs.declared.value.DiscardedQueue.{DiscardedQueue}
-use Rattle.input_queue.specs.declared.value.DelayedQueue.{DelayedQueue}
+use Rattle.input_queue_value.specs.declared.InputQueue.{InputQueue}
+use Rattle.input_queue_value.specs.declared.OpenedQueue.{OpenedQueue}
+use Rattle.input_queue_value.specs.declared.AddedQueue.{AddedQueue}
+use Rattle.input_queue_value.specs.declared.ServedQueue.{ServedQueue}
+use Rattle.input_queue_value.specs.declared.DiscardedQueue.{DiscardedQueue}
+use Rattle.input_queue_value.specs.declared.DelayedQueue.{DelayedQueue}
 use Rattle.input_queue.specs.Queue as queue
 use Rattle.input_queue.specs.Ring.{queueLength}
 use Rattle.input_queue.specs.Calls as calls
 use Rattle.input_queue.specs.Whole as bounds
 
 abbrev pub Whole : InputQueue → Type 0
 Whole q = bounds.Whole (q .inputs) 0 (q .state)

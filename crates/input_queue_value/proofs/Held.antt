@@ -5,17 +5,17 @@ use mathlib.Core.List.{List}
 use lib.IntN.{ℤ}
 use lib.ListN.{replicate}
 use Rattle.frame_info.specs.declared.PlayerInput.{PlayerInput}
 use Rattle.input_queue.specs.declared.QueueState.{QueueState}
 use Rattle.input_queue.specs.declared.Opened.{Opened}
 use Rattle.input_queue.specs.declared.Added.{Added}
 use Rattle.input_queue.specs.declared.Served.{Served}
 use Rattle.input_queue.specs.declared.Found.{Found}
 use Rattle.input_queue.specs.declared.Discarded.{Discarded}
 use Rattle.input_queue.specs.declared.Delayed.{Delayed}
-use Rattle.input_queue.specs.declared.value.InputQueue.{InputQueue}
+use Rattle.input_queue_value.specs.declared.InputQueue.{InputQueue}
 use Rattle.input_queue.specs.Queue as queue
 use Rattle.input_queue.specs.Calls as calls
-use Rattle.input_queue.specs.Value as held
+use Rattle.input_queue_value.specs.Value as held
 
 pub held-opened : (p d : ℕ) (o : Opened) → o ≡ calls.opened p d
     → record { no = o .no; queue = record { predictor = o .predictor; state = o .state; inputs = replicate 128 0 } } ≡ held.opened p d

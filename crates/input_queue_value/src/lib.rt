@@ -1,16 +1,16 @@
-// The queue as one value, its ring inside. Each method lends its own ring to the call of the same
-// name, and puts the queue together again.
-use crate::Added;
-use crate::Delayed;
-use crate::Found;
-use crate::QueueState;
-use crate::Served;
+// One seat's queue as one value, its ring inside: the form by value of `input_queue`. Each method
+// lends its own ring to that crate's call of the same name, and puts the queue together again.
 use frame_info::PlayerInput;
+use input_queue::Added;
+use input_queue::Delayed;
+use input_queue::Found;
+use input_queue::QueueState;
+use input_queue::Served;
 ghost use mathlib.Core.Path.{_≡_};
 ghost use lib.IntN.{ℤ};
 ghost use Rattle.input_queue.specs.Calls as calls;
-ghost use Rattle.input_queue.specs.Value as held;
+ghost use Rattle.input_queue_value.specs.Value as held;
 ghost use Rattle.input_queue.specs.Whole.{Whole};
 
 pub struct InputQueue {
     pub predictor: u32,
@@ -53,7 +53,7 @@ impl InputQueue {
     pub fn new(predictor: u32, delay: u32) -> OpenedQueue
         ensures { λ r. ⌜ r ≡ held.opened predictor delay ⌝ }
     {
-        let o = crate::new(predictor, delay);
+        let o = input_queue::new(predictor, delay);
         let state = o.state;
         OpenedQueue {
             no: o.no,
@@ -111,7 +111,7 @@ impl InputQueue {
         ensures { λ r. ⌜ r ≡ held.discarded self frame ⌝ }
     {
         let s = self.state;
-        let d = crate::discard_confirmed_frames(s, frame);
+        let d = input_queue::discard_confirmed_frames(s, frame);
         let state = d.state;
         let mut q = self;
         q.state = state;
@@ -123,7 +123,7 @@ impl InputQueue {
     {
         let s = self.state;
         let mut q = self;
-        q.state = crate::reset_prediction(s);
+        q.state = input_queue::reset_prediction(s);
         q
     }
 
@@ -149,7 +149,7 @@ impl InputQueue {
         ensures { λ r. ⌜ r ≡ calls.firstIncorrect (self .state) ⌝ }
     {
         let s = self.state;
-        crate::first_incorrect_frame(s)
+        input_queue::first_incorrect_frame(s)
     }
 }
 
@@ -159,26 +159,26 @@ fn add_in(words: &mut [u32; 128], s: QueueState, input: PlayerInput) -> Added
     ensures { λ r. ⌜ (r ≡ calls.addInput (now (words .entry)) 0 s input)
         × (now (words .exit) ≡ calls.inputWords (now (words .entry)) 0 s input) ⌝ }
 {
-    crate::add_input(words, 0, s, input)
+    input_queue::add_input(words, 0, s, input)
 }
 
 fn ask_in(words: &[u32; 128], s: QueueState, predictor: u32, frame: i32) -> Served
     requires { ⌜ Whole (now words) 0 s ⌝ }
     ensures { λ r. ⌜ r ≡ calls.served (now (words .entry)) 0 s predictor frame ⌝ }
 {
-    crate::input(words, 0, s, predictor, frame)
+    input_queue::input(words, 0, s, predictor, frame)
 }
 
 fn find_in(words: &[u32; 128], s: QueueState, frame: i32) -> Found
     requires { ⌜ Whole (now words) 0 s ⌝ }
     ensures { λ r. ⌜ r ≡ calls.found (now (words .entry)) 0 s frame ⌝ }
 {
-    crate::confirmed_input(words, 0, s, frame)
+    input_queue::confirmed_input(words, 0, s, frame)
 }
 
 fn delay_in(words: &[u32; 128], s: QueueState, delay: u32) -> Delayed
     requires { ⌜ Whole (now words) 0 s ⌝ }
     ensures { λ r. ⌜ r ≡ calls.delayedTo (now (words .entry)) 0 s delay ⌝ }
 {
-    crate::set_frame_delay(words, 0, s, delay)
+    input_queue::set_frame_delay(words, 0, s, delay)
 }
