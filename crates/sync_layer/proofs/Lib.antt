@@ -1,0 +1,9 @@
+pub mod Rows
+pub mod Seating
+pub mod Turns
+pub mod Slotting
+pub mod Answers
+pub mod Asking
+pub mod Kept
+pub mod Apart
+pub mod Found

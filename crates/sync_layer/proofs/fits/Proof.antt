@@ -1,0 +1,34 @@
+use Rattle.sync_layer.proofs.Answers.{setups}
+use borrow.Author.Needs.{needs}
+use Rattle.sync_layer.proofs.fits.Statement.{statement}
+use Rattle.sync_layer.proofs.fits.Tie as tie
+use Rattle.sync_layer.proofs.fits.Reads as reads
+use Rattle.sync_layer.proofs.fits.Lts as lts
+use Rattle.sync_layer.proofs.all_late.Reads as all-late-reads
+
+-- src/lib.rt:101:9
+returns : tie.Need-returns
+returns c = search (needs, setups)
+
+-- src/lib.rt:104:9
+returns-2 : tie.Need-returns-2
+returns-2 c = search (needs, setups)
+
+-- src/lib.rt:107:9
+returns-3 : tie.Need-returns-3
+returns-3 c = search (needs, setups)
+
+-- src/lib.rt:110:9
+returns-4 : tie.Need-returns-4
+returns-4 c = search (needs, setups)
+
+-- src/lib.rt:112:5
+all-late-requires : tie.Need-all-late-requires
+all-late-requires c κs = search needs
+
+-- src/lib.rt:96:1
+returns-5 : tie.Need-returns-5
+returns-5 c = search (needs, setups)
+
+pub fits-spec : {M : Type 1} → statement M
+fits-spec = tie.close (tie.spec returns returns-2 returns-3 returns-4 all-late-requires returns-5)
