@@ -1,0 +1,14 @@
+pub mod Seat
+pub mod Sound
+pub mod Flat
+pub mod Steps
+pub mod Take
+pub mod Stored
+pub mod Run
+pub mod Demand
+pub mod Refusals
+pub mod Overwrite
+pub mod Claims
+pub mod Reached
+pub mod Compared
+pub mod Samples

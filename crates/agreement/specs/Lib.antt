@@ -1,0 +1,4 @@
+pub mod Reference
+pub mod Tried
+pub mod Statement
+pub mod Compared

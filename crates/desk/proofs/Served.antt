@@ -1,0 +1,426 @@
+-- Frames served and replayed, a settle and an advance, as the code makes them. Assumes nothing.
+use Prim.Native.Nat.{ℕ, zero, suc, _+_, _-_, _*_, _<_, _≤_, min}
+use native.Mathlib.Omega.{arith}
+use native.Mathlib.Numerals.{add-one}
+use native.Mathlib.Nat.{mod-lt}
+use mathlib.Core.Path.{_≡_, refl, sym, ap, ap₂, _∙_, subst}
+use mathlib.Core.Logic.{⊎-elim}
+use mathlib.Core.List.{List, []}
+use lib.ListN.{length, getD, set, length-set}
+use lib.ListN as lists
+use borrow.Author.Tests.{eq-eqb, ne-eqb}
+use Rattle.frame_info.proofs.Split.{split-eqb}
+use Rattle.frame_info.specs.Frame.{lastCount}
+use Rattle.frame_info.specs.Word.{predicted}
+use Rattle.console.specs.declared.Console.{Console}
+use Rattle.console.specs.Step.{stepOf}
+use Rattle.input_queue.specs.declared.QueueState.{QueueState}
+use Rattle.input_queue.specs.declared.Asked.{Asked}
+use Rattle.input_queue.specs.Queue.{asking, asked, answer, reset, discard}
+use Rattle.input_queue.specs.Ring.{wordAt}
+use Rattle.input_queue.specs.Whole as queues
+use Rattle.sync_layer.specs.Lists.{writeRow, lowestOf}
+use Rattle.sync_layer.specs.Seats.{ringOf, seatAt, setSeat, mapSeats}
+use Rattle.sync_layer.specs.Slots.{slotOf, stateIn, saveSlot}
+use Rattle.sync_layer.specs.Whole.{SeatRoom, WordRoom, SlotRoom}
+use Rattle.sync_layer.proofs.Rows.{row-long, row-same}
+use Rattle.sync_layer.proofs.Seating.{seat-long, map-past}
+use Rattle.desk.specs.declared.DeskState.{DeskState}
+use Rattle.desk.specs.declared.Report.{Report}
+use Rattle.desk.specs.Lists.{leastOf, rowOf}
+use Rattle.desk.specs.Desk.{Desk, deskOf, knownOf, mismatchOf, load, resetAll, discardAll, confirm, advanceAnswer, oneFrame, replay, corrected, settle, advance}
+use Rattle.desk.specs.Settled.{shownWord}
+use Rattle.desk.specs.Calls as calls
+use Rattle.desk.specs.Whole.{Seated, Whole}
+use Rattle.desk.proofs.Loops.{row-eq, write-eq, part-row}
+use Rattle.desk.proofs.Kept.{save-long, mismatch-past, back-whole, confirm-state, frame-whole, frame-current, corrected-whole, settle-whole}
+
+-- Every seat asked so far -------------------------------------------------------------------------------------------------------
+
+-- k is the predictor and c the current frame
+abbrev pub askSeat : ℕ → ℕ → List ℕ → ℕ → QueueState → QueueState
+askSeat k c w i q = asked (predicted k) (wordAt w (ringOf i)) q c
+
+abbrev pub answerAt : ℕ → ℕ → List ℕ → List ℕ → ℕ → ℕ
+answerAt k c l w i = answer (predicted k) (wordAt w (ringOf i)) (seatAt l i) c
+
+abbrev answerSeat : DeskState → List ℕ → List ℕ → ℕ → ℕ
+answerSeat y l w = answerAt (y .predictor) (y .current) l w
+
+pub record Serving (n k c : ℕ) (l₀ w m₀ : List ℕ) (from : ℕ) (l m : List ℕ) (i : ℕ) : Type 0 where
+  pub upto : i ≤ n
+  pub seats : l ≡ mapSeats i (askSeat k c w) l₀
+  pub slots : m ≡ writeRow i m₀ from (answerAt k c l₀ w)
+  pub long : length l ≡ length l₀
+  pub long-slots : length m ≡ length m₀
+
+module _ (n k c : ℕ) (l₀ w m₀ : List ℕ) (from : ℕ) where
+  pub serving-start : Serving n k c l₀ w m₀ from l₀ m₀ 0
+  unfolding mapSeats writeRow
+  serving-start = record { upto = omega arith; seats = refl; slots = refl; long = refl; long-slots = refl }
+
+  module _ (l m : List ℕ) (i : ℕ) (v : Serving n k c l₀ w m₀ from l m i) where
+    stands : seatAt l i ≡ seatAt l₀ i
+    stands = rw (v .seats) (map-past (askSeat k c w) i l₀ i (omega arith))
+
+    pub serving-seat : i < n → n ≤ 4 → SeatRoom l₀ → (i + 1) * 8 ≤ length l
+    serving-seat p h r = omega (arith, v .long)
+
+    pub serving-whole : (y : DeskState) (s : QueueState) → i < y .seats → Seated y l₀ → WordRoom w → s ≡ seatAt l i → queues.Whole w (i * 128) s
+    serving-whole y s p h r e =
+        rw (e, stands) (record { room = omega (arith, h .ready .few); numbers = h .seat i p .sane })
+
+    pub serving-reach : i < n → n ≤ 4 → from + 4 ≤ length m₀ → from + i < length m
+    serving-reach p h r = omega (arith, v .long-slots)
+
+    pub serving-turn : (s : QueueState) (a : Asked) (l′ : List ℕ) → i < n → s ≡ seatAt l i
+        → a ≡ asking (predicted k) (wordAt w (i * 128)) s c → l′ ≡ setSeat l i (a .state)
+        → Serving n k c l₀ w m₀ from l′ (set m (from + i) (a .word)) (i + 1)
+    unfolding mapSeats writeRow
+    serving-turn s a l′ p e g h =
+        record {
+          upto = omega arith;
+          seats = rw add-one (h ∙ rw (g, e, stands) (ap (λ (x : List ℕ). setSeat x i (askSeat k c w i (seatAt l₀ i))) (v .seats)));
+          slots = rw add-one (rw (g, e, stands) (ap (λ (x : List ℕ). set x (from + i) (answerAt k c l₀ w i)) (v .slots)));
+          long = rw h (seat-long l i (a .state) ∙ v .long);
+          long-slots = simp length-set (v .long-slots);
+        }
+
+    module _ (p : n ≤ i) where
+      all-seats : n ≡ i
+      all-seats = omega (arith, v .upto)
+
+      pub serving-seats : l ≡ mapSeats n (λ i q. asked (predicted k) (wordAt w (ringOf i)) q c) l₀
+      serving-seats = rw all-seats (v .seats)
+
+      pub serving-slots : m ≡ writeRow n m₀ from (λ i. answer (predicted k) (wordAt w (ringOf i)) (seatAt l₀ i) c)
+      serving-slots = rw all-seats (v .slots)
+
+pub ruleset servings = (serving-start, serving-seat, serving-whole, serving-reach, serving-turn, serving-seats, serving-slots)
+
+-- One frame ---------------------------------------------------------------------------------------------------------------------
+
+module _ (y : DeskState) (l w m : List ℕ) (h : Whole (deskOf y l w m)) (m₁ : List ℕ) (at : ℕ)
+    (a : m₁ ≡ saveSlot (y .limit) m (y .current) (y .console)) (b : at ≡ slotOf (y .limit) (y .current)) (u : at ≤ y .limit * 16) where
+  saved-long : length m₁ ≡ length m
+  saved-long = ap length a ∙ save-long (y .limit) m (y .current) (y .console)
+
+  pub frame-room : at + 4 + 4 ≤ length m₁
+  frame-room = omega (arith, saved-long, h .deep, h .seated .ready .near)
+
+  pub frame-from : at + 4 ≤ 244
+  frame-from = omega (arith, h .seated .ready .near)
+
+  module _ (l₂ m₂ : List ℕ) (d : l₂ ≡ mapSeats (y .seats) (λ i q. asked (predicted (y .predictor)) (wordAt w (ringOf i)) q (y .current)) l)
+      (e : m₂ ≡ writeRow (y .seats) m₁ (at + 4) (λ i. answer (predicted (y .predictor)) (wordAt w (ringOf i)) (seatAt l i) (y .current))) where
+    written-long : length m₂ ≡ length m
+    written-long = ap length e ∙ row-long (y .seats) m₁ (at + 4) (answerSeat y l w) ∙ saved-long
+
+    pub frame-end : at + 4 + y .seats ≤ length m₂
+    frame-end = omega (arith, written-long, h .deep, h .seated .ready .near, h .seated .ready .few)
+
+    served-part : lists.take (at + 4 + y .seats - (at + 4)) (lists.drop (at + 4) m₂) ≡ rowOf (y .seats) (answerSeat y l w)
+    served-part =
+        let k : at + 4 + y .seats - (at + 4) ≡ y .seats = omega arith in
+        rw k
+        (part-row (y .seats) m₂ (at + 4) frame-end
+        ∙ row-eq (y .seats) (λ i. getD m₂ (at + 4 + i) 0) (answerSeat y l w) (λ i p.
+        ap (λ (x : List ℕ). getD x (at + 4 + i) 0) e
+        ∙ row-same (y .seats) m₁ (at + 4) (answerSeat y l w) i 0 (omega (arith, frame-room, h .seated .ready .few)) p))
+
+    pub frame-desk : (k : Console) → k ≡ stepOf (y .console) (lists.take (at + 4 + y .seats - (at + 4)) (lists.drop (at + 4) m₂))
+        → deskOf (record { seats = y .seats; limit = y .limit; predictor = y .predictor; current = y .current + 1; console = k }) l₂ w m₂
+        ≡ calls.frameOn (deskOf y l w m)
+    unfolding oneFrame
+    frame-desk k g =
+        let j : k ≡ stepOf (y .console) (rowOf (y .seats) (answerSeat y l w)) = g ∙ ap (stepOf (y .console)) served-part in
+        let i : m₂ ≡ writeRow (y .seats) (saveSlot (y .limit) m (y .current) (y .console)) (slotOf (y .limit) (y .current) + 4) (answerSeat y l w)
+        = e ∙ ap₂ (λ (x : List ℕ) (n : ℕ). writeRow (y .seats) x (n + 4) (answerSeat y l w)) a b in
+        λ z. record {
+          state = record { seats = y .seats; limit = y .limit; predictor = y .predictor; current = y .current + 1; console = j z };
+          seats = d z;
+          words = w;
+          slots = i z;
+        }
+
+pub ruleset frames = (frame-room, frame-from, frame-end, frame-desk)
+
+-- Replay: one frame and then the rest -------------------------------------------------------------------------------------------
+
+pub replay-none : (y : DeskState) (l w m : List ℕ) (p : ℕ → ℕ) (n : ℕ) → n ≤ y .current → deskOf y l w m ≡ replay stepOf p (n - y .current) (deskOf y l w m)
+unfolding replay
+replay-none y l w m p n h = let e : n - y .current ≡ 0 = omega arith in rw e
+
+frame-predictor : (d : Desk) → calls.frameOn d .state .predictor ≡ d .state .predictor
+unfolding oneFrame
+frame-predictor d = refl
+
+replay-first : (n k : ℕ) (p : ℕ → ℕ) (d : Desk) → n ≡ suc k → replay stepOf p n d ≡ replay stepOf p k (oneFrame stepOf p d)
+unfolding replay
+replay-first n k p d e = rw e
+
+module _ (y e : DeskState) (l w m l′ m′ : List ℕ) (a : deskOf e l′ w m′ ≡ calls.frameOn (deskOf y l w m)) where
+  pub next-current : e .current ≡ y .current + 1
+  next-current = ap (λ (d : Desk). d .state .current) a ∙ frame-current stepOf (predicted (y .predictor)) (deskOf y l w m)
+
+  next-predictor : e .predictor ≡ y .predictor
+  next-predictor = ap (λ (d : Desk). d .state .predictor) a ∙ frame-predictor (deskOf y l w m)
+
+module _ (y e : DeskState) (l w m l′ m′ : List ℕ) (n : ℕ) (a : deskOf e l′ w m′ ≡ calls.frameOn (deskOf y l w m)) (b : y .current < n) where
+  next : e .current ≡ y .current + 1
+  next = next-current y e l w m l′ m′ a
+
+  pub replay-whole-next : Whole (deskOf y l w m) → n < lastCount → Whole (deskOf e l′ w m′)
+  replay-whole-next h c = subst (λ (d : Desk). Whole d) (sym a) (frame-whole stepOf (predicted (y .predictor)) (deskOf y l w m) h (omega arith))
+
+  pub replay-upto : e .current ≤ n
+  replay-upto = omega (arith, next)
+
+  pub replay-rest : (r : DeskState) (l″ m″ : List ℕ) → deskOf r l″ w m″ ≡ replay stepOf (predicted (e .predictor)) (n - e .current) (deskOf e l′ w m′)
+      → deskOf r l″ w m″ ≡ replay stepOf (predicted (y .predictor)) (n - y .current) (deskOf y l w m)
+  replay-rest r l″ m″ c =
+      let k : n - y .current ≡ suc (n - e .current) = omega (arith, next) in
+      c
+      ∙ ap₂ (λ (p : ℕ) (d : Desk). replay stepOf (predicted p) (n - e .current) d) (next-predictor y e l w m l′ m′ a) a
+      ∙ sym (replay-first (n - y .current) (n - e .current) (predicted (y .predictor)) (deskOf y l w m) k)
+
+pub ruleset replays = (replay-none, replay-whole-next, replay-upto, replay-rest)
+
+-- Going back --------------------------------------------------------------------------------------------------------------------
+
+pub load-state : (y : DeskState) (m : List ℕ) (f : ℕ) (k : Console) → k ≡ stateIn (y .limit) m f
+    → record { seats = y .seats; limit = y .limit; predictor = y .predictor; current = f; console = k } ≡ load (deskOf y [] [] m) f .state
+unfolding load
+load-state y m f k e = rw e
+
+pub ruleset loads = (load-state)
+
+pub correct-none : (y : DeskState) (l w m : List ℕ) (p : ℕ → ℕ) (n : ℕ) → n ≡ lowestOf (y .seats) (λ s. seatAt l s .wrong) → n ≡ 0 → deskOf y l w m ≡ corrected stepOf p (deskOf y l w m)
+unfolding corrected
+correct-none y l w m p n e z = rw (← e) (simp (eq-eqb _ _ z))
+
+module _ (y : DeskState) (l w m : List ℕ) (n : ℕ) (h : Whole (deskOf y l w m)) (e : n ≡ lowestOf (y .seats) (λ s. seatAt l s .wrong)) (z : n ≡ 0 → ⊥)
+    (b : DeskState) (l′ : List ℕ) (a : b ≡ load (deskOf y [] [] m) (n - 1) .state) (c : l′ ≡ mapSeats (y .seats) (λ i q. reset q) l) where
+  back-desk : deskOf b l′ w m ≡ resetAll (load (deskOf y l w m) (n - 1))
+  unfolding resetAll load
+  back-desk = ap₂ (λ (x : DeskState) (k : List ℕ). deskOf x k w m) a c
+
+  back-frame : b .current ≡ n - 1
+  unfolding load
+  back-frame = ap (λ (x : DeskState). x .current) a
+
+  back-predictor : b .predictor ≡ y .predictor
+  unfolding load
+  back-predictor = ap (λ (x : DeskState). x .predictor) a
+
+  low : n ≤ y .current
+  low = omega (arith, e, mismatch-past y l (h .seated))
+
+  pub correct-whole : Whole (deskOf b l′ w m)
+  correct-whole = subst (λ (d : Desk). Whole d) (sym back-desk) (back-whole (deskOf y l w m) (n - 1) h (omega (arith, low, h .seated .ready .early)))
+
+  pub correct-upto : b .current ≤ y .current
+  correct-upto = omega (arith, back-frame, low)
+
+  pub correct-early : y .current < lastCount
+  correct-early = h .seated .ready .early
+
+  pub correct-desk : (r : DeskState) (l″ m″ : List ℕ) → deskOf r l″ w m″ ≡ replay stepOf (predicted (b .predictor)) (y .current - b .current) (deskOf b l′ w m)
+      → deskOf r l″ w m″ ≡ corrected stepOf (predicted (y .predictor)) (deskOf y l w m)
+  unfolding corrected
+  correct-desk r l″ m″ g =
+      g
+      ∙ ap₂ (λ (p k : ℕ). replay stepOf (predicted p) (y .current - k) (deskOf b l′ w m)) back-predictor back-frame
+      ∙ ap (replay stepOf (predicted (y .predictor)) (y .current - (n - 1))) back-desk
+      ∙ rw (← e) (simp (ne-eqb _ _ z))
+
+pub ruleset corrects = (correct-none, correct-whole, correct-upto, correct-early, correct-desk)
+
+-- Confirm -----------------------------------------------------------------------------------------------------------------------
+
+module _ (y : DeskState) (l : List ℕ) (k : ℕ) (e : k ≡ leastOf (y .seats - 1) (λ s. seatAt l s .added)) where
+  pub confirm-unknown : k ≡ 0 → deskOf y l [] [] ≡ confirm (deskOf y l [] [])
+  unfolding confirm
+  confirm-unknown a = rw (← e) (simp (eq-eqb _ _ a))
+
+  module _ (a : k ≡ 0 → ⊥) (f : ℕ) (b : f ≡ min (k - 1) (y .current)) where
+    pub confirm-first : f ≡ 0 → deskOf y l [] [] ≡ confirm (deskOf y l [] [])
+    unfolding confirm
+    confirm-first c = rw (← e, ← b) (simp (ne-eqb _ _ a, eq-eqb _ _ c))
+
+    pub confirm-some : (l′ : List ℕ) → (f ≡ 0 → ⊥) → l′ ≡ mapSeats (y .seats) (λ i q. discard q (f - 1)) l → deskOf y l′ [] [] ≡ confirm (deskOf y l [] [])
+    unfolding confirm discardAll
+    confirm-some l′ c d = rw (← e, ← b, d) (simp (ne-eqb _ _ a, ne-eqb _ _ c))
+
+    pub confirm-early : Seated y l → f - 1 < 4294967295
+    confirm-early h = omega (arith, h .ready .early)
+
+pub ruleset confirming = (confirm-unknown, confirm-first, confirm-some, confirm-early)
+
+-- a confirm looks at no words and no slots
+confirm-lists : (y : DeskState) (l l′ w m : List ℕ) → deskOf y l′ [] [] ≡ confirm (deskOf y l [] []) → deskOf y l′ w m ≡ confirm (deskOf y l w m)
+unfolding confirm discardAll
+confirm-lists y l l′ w m e = ap (λ (d : Desk). deskOf y (d .seats) w m) e ∙ put
+  where
+    put : deskOf y (confirm (deskOf y l [] []) .seats) w m ≡ confirm (deskOf y l w m)
+    put =
+        ⊎-elim
+        (λ a. simp (a .1))
+        (λ a. ⊎-elim (λ b. simp (a .1, b .1)) (λ b. simp (a .1, b .1)) (split-eqb (min (knownOf (deskOf y l [] []) - 1) (y .current)) 0))
+        (split-eqb (knownOf (deskOf y l [] [])) 0)
+
+-- Settle ------------------------------------------------------------------------------------------------------------------------
+
+module _ (y : DeskState) (l w m : List ℕ) (h : Whole (deskOf y l w m)) where
+  pub settle-low : (n : ℕ) → n ≡ lowestOf (y .seats) (λ s. seatAt l s .wrong) → n ≤ y .current
+  settle-low n e = omega (arith, e, mismatch-past y l (h .seated))
+
+  module _ (s : DeskState) (l₁ m₁ : List ℕ) (e : deskOf s l₁ w m₁ ≡ corrected stepOf (predicted (y .predictor)) (deskOf y l w m)) where
+    corrected-seated : (d : Desk) → deskOf s l₁ w m₁ ≡ d → Whole d → Seated s l₁
+    corrected-seated d a k = subst (λ (x : Desk). Whole x) (sym a) k .seated
+
+    pub settle-seated : Seated s l₁
+    settle-seated = corrected-seated (corrected stepOf (predicted (y .predictor)) (deskOf y l w m)) e (corrected-whole stepOf (predicted (y .predictor)) (deskOf y l w m) h)
+
+    pub settle-desk : (l₂ : List ℕ) → deskOf s l₂ [] [] ≡ confirm (deskOf s l₁ [] []) → deskOf s l₂ w m₁ ≡ calls.settleOf (deskOf y l w m)
+    unfolding settle
+    settle-desk l₂ a = confirm-lists s l₁ l₂ w m₁ a ∙ ap confirm e
+
+pub settle-report : (y : DeskState) (l w m : List ℕ) (n : ℕ) (r : Report) → n ≡ lowestOf (y .seats) (λ s. seatAt l s .wrong) → r ≡ calls.reportAt n (y .current) → r ≡ calls.reportOf (deskOf y l w m)
+settle-report y l w m n r e a = rw e at a
+
+pub ruleset settles = (settle-low, settle-seated, settle-desk, settle-report)
+
+-- One frame, with the words served and their standings --------------------------------------------------------------------------
+
+-- a slot lies within the lent slots
+slot-within : (limit f : ℕ) → slotOf limit f ≤ limit * 16
+slot-within limit f = let h = mod-lt f {m = limit + 1} (omega arith) in omega arith
+
+module _ (s : DeskState) (l₁ w m₁ : List ℕ) (h : Whole (deskOf s l₁ w m₁)) where
+  pub serve-standings : (o o′ : List ℕ) → o′ ≡ writeRow (s .seats) o 0 (calls.standing (deskOf s l₁ [] [])) → o′ ≡ writeRow (s .seats) o 0 (calls.standing (deskOf s l₁ w m₁))
+  serve-standings o o′ a = a
+
+  module _ (t : DeskState) (l₂ m₂ : List ℕ) (f : deskOf t l₂ w m₂ ≡ calls.frameOn (deskOf s l₁ w m₁)) where
+    served-slots : m₂ ≡ writeRow (s .seats) (saveSlot (s .limit) m₁ (s .current) (s .console)) (slotOf (s .limit) (s .current) + 4) (answerSeat s l₁ w)
+    unfolding oneFrame
+    served-slots = ap (λ (d : Desk). d .slots) f
+
+    served-long : length m₂ ≡ length m₁
+    served-long =
+        ap length served-slots
+        ∙ row-long (s .seats) (saveSlot (s .limit) m₁ (s .current) (s .console)) (slotOf (s .limit) (s .current) + 4) (answerSeat s l₁ w)
+        ∙ save-long (s .limit) m₁ (s .current) (s .console)
+
+    pub serve-deep : SlotRoom m₂
+    serve-deep = omega (arith, served-long, h .deep)
+
+    served-word : (i : ℕ) → i < s .seats → shownWord (deskOf s [] [] m₂) (s .current) i ≡ calls.servedWord (deskOf s l₁ w m₁) i
+    served-word i x =
+        let r = h .seated .ready in
+        let b = slot-within (s .limit) (s .current) in
+        let k : slotOf (s .limit) (s .current) + (4 + i) ≡ slotOf (s .limit) (s .current) + 4 + i = omega arith in
+        ap (λ (j : ℕ). getD m₂ j 0) k
+        ∙ ap (λ (o : List ℕ). getD o (slotOf (s .limit) (s .current) + 4 + i) 0) served-slots
+        ∙ row-same (s .seats) (saveSlot (s .limit) m₁ (s .current) (s .console)) (slotOf (s .limit) (s .current) + 4) (answerSeat s l₁ w) i 0
+        (omega (arith, save-long (s .limit) m₁ (s .current) (s .console), h .deep, r .few, r .near)) x
+
+    pub serve-words : (o o′ : List ℕ) → o′ ≡ writeRow (s .seats) o 0 (shownWord (deskOf s [] [] m₂) (s .current)) → o′ ≡ writeRow (s .seats) o 0 (calls.servedWord (deskOf s l₁ w m₁))
+    serve-words o o′ a = a ∙ write-eq (s .seats) o 0 (shownWord (deskOf s [] [] m₂) (s .current)) (calls.servedWord (deskOf s l₁ w m₁)) served-word
+
+pub ruleset serves = (serve-standings, serve-deep, serve-words)
+
+-- Advance -----------------------------------------------------------------------------------------------------------------------
+
+-- a settle leaves the seats and the predictor as they are
+record Alike (y z : DeskState) : Type 0 where
+  seats : z .seats ≡ y .seats
+  limit : z .limit ≡ y .limit
+  predictor : z .predictor ≡ y .predictor
+
+module _ (step : Console → List ℕ → Console) (p : ℕ → ℕ) where
+  replay-alike : (n : ℕ) (d : Desk) → Alike (d .state) (replay step p n d .state)
+  unfolding replay oneFrame
+  replay-alike zero d = record { seats = refl; limit = refl; predictor = refl }
+  replay-alike (suc n) d =
+      let a = replay-alike n (oneFrame step p d) in
+      record { seats = a .seats; limit = a .limit; predictor = a .predictor }
+
+  corrected-alike : (d : Desk) → Alike (d .state) (corrected step p d .state)
+  unfolding corrected resetAll load
+  corrected-alike d =
+      ⊎-elim
+      (λ a. simp (a .1) (record { seats = refl; limit = refl; predictor = refl }))
+      (λ a. simp (a .1)
+      (let b = replay-alike (d .state .current - (mismatchOf d - 1)) (resetAll (load d (mismatchOf d - 1))) in
+      record { seats = b .seats; limit = b .limit; predictor = b .predictor }))
+      (split-eqb (mismatchOf d) 0)
+
+  settle-alike : (d : Desk) → Alike (d .state) (settle step p d .state)
+  unfolding settle
+  settle-alike d = rw (confirm-state (corrected step p d)) (corrected-alike d)
+
+module _ (y : DeskState) (l w m : List ℕ) (n : ℕ) (g : n ≡ advanceAnswer (deskOf y l [] [])) where
+  pub advance-number : n ≡ advanceAnswer (deskOf y l w m)
+  unfolding advanceAnswer
+  advance-number = g
+
+  module _ (z : n ≡ 0 → ⊥) where
+    pub advance-refused : deskOf y l w m ≡ calls.advanceOf (deskOf y l w m)
+    unfolding advance
+    advance-refused = rw (← advance-number) (simp (ne-eqb _ _ z))
+
+    pub advance-silent : (r : Report) → r ≡ calls.reportAt 0 0 → r ≡ calls.advanceReport (deskOf y l w m)
+    unfolding calls.advanceReport
+    advance-silent r a = rw (← advance-number) (simp (ne-eqb _ _ z) a)
+
+    pub advance-unserved : (o : List ℕ) → o ≡ calls.advanceServed (deskOf y l w m) o
+    unfolding calls.advanceServed
+    advance-unserved o = rw (← advance-number) (simp (ne-eqb _ _ z))
+
+    pub advance-unstood : (o : List ℕ) → o ≡ calls.advanceStandings (deskOf y l w m) o
+    unfolding calls.advanceStandings
+    advance-unstood o = rw (← advance-number) (simp (ne-eqb _ _ z))
+
+  module _ (z : n ≡ 0) where
+    pub advance-done : 0 ≡ advanceAnswer (deskOf y l w m)
+    advance-done = sym z ∙ advance-number
+
+    pub advance-report : (r : Report) → r ≡ calls.reportOf (deskOf y l w m) → r ≡ calls.advanceReport (deskOf y l w m)
+    unfolding calls.advanceReport
+    advance-report r a = rw (← advance-number) (simp (eq-eqb _ _ z) a)
+
+    module _ (h : Whole (deskOf y l w m)) (s : DeskState) (l₁ m₁ : List ℕ) (e : deskOf s l₁ w m₁ ≡ calls.settleOf (deskOf y l w m)) where
+      alike : Alike y s
+      alike = subst (λ (d : Desk). Alike y (d .state)) (sym e) (settle-alike stepOf (predicted (y .predictor)) (deskOf y l w m))
+
+      pub advance-settled : Whole (deskOf s l₁ w m₁)
+      advance-settled = subst (λ (d : Desk). Whole d) (sym e) (settle-whole stepOf (predicted (y .predictor)) (deskOf y l w m) h)
+
+      pub advance-wide : (o : List ℕ) → y .seats ≤ length o → s .seats ≤ length o
+      advance-wide o a = omega (arith, alike .seats)
+
+      pub advance-standings : (o o′ : List ℕ) → o′ ≡ writeRow (s .seats) o 0 (calls.standing (deskOf s l₁ w m₁)) → o′ ≡ calls.advanceStandings (deskOf y l w m) o
+      unfolding calls.advanceStandings
+      advance-standings o o′ a =
+          rw (← advance-number)
+          (simp (eq-eqb _ _ z)
+          (a ∙ ap (λ (k : ℕ). writeRow k o 0 (calls.standing (deskOf s l₁ w m₁))) (alike .seats)
+          ∙ ap (λ (d : Desk). writeRow (y .seats) o 0 (calls.standing d)) e))
+
+      pub advance-served : (o o′ : List ℕ) → o′ ≡ writeRow (s .seats) o 0 (calls.servedWord (deskOf s l₁ w m₁)) → o′ ≡ calls.advanceServed (deskOf y l w m) o
+      unfolding calls.advanceServed
+      advance-served o o′ a =
+          rw (← advance-number)
+          (simp (eq-eqb _ _ z)
+          (a ∙ ap (λ (k : ℕ). writeRow k o 0 (calls.servedWord (deskOf s l₁ w m₁))) (alike .seats)
+          ∙ ap (λ (d : Desk). writeRow (y .seats) o 0 (calls.servedWord d)) e))
+
+      pub advance-desk : (t : DeskState) (l₂ m₂ : List ℕ) → deskOf t l₂ w m₂ ≡ calls.frameOn (deskOf s l₁ w m₁) → deskOf t l₂ w m₂ ≡ calls.advanceOf (deskOf y l w m)
+      unfolding advance
+      advance-desk t l₂ m₂ f =
+          rw (← advance-number)
+          (simp (eq-eqb _ _ z)
+          (f ∙ ap₂ (λ (k : ℕ) (d : Desk). oneFrame stepOf (predicted k) d) (alike .predictor) e))
+
+pub ruleset advancing = (advance-number, advance-refused, advance-silent, advance-unserved, advance-unstood, advance-done, advance-report, advance-settled, advance-wide, advance-standings, advance-served, advance-desk)

@@ -1,0 +1,54 @@
+use Rattle.desk.proofs.Served.{serves}
+use borrow.Author.Needs.{needs}
+use Rattle.desk.proofs.frames.serve_frame.Statement.{statement}
+use Rattle.desk.proofs.frames.serve_frame.Tie as tie
+use Rattle.desk.proofs.frames.serve_frame.Reads as reads
+use Rattle.desk.proofs.frames.serve_frame.Lts as lts
+use Rattle.desk.proofs.frames.one_frame.Reads as one-frame-reads
+use Rattle.desk.proofs.frames.put_standings.Reads as put-standings-reads
+use Rattle.desk.proofs.showing.put_words.Reads as put-words-reads
+
+-- src/frames.rt:167:5
+put-standings-requires : tie.Need-put-standings-requires
+put-standings-requires c κs = search needs
+
+-- src/frames.rt:168:9
+one-frame-requires : tie.Need-one-frame-requires
+one-frame-requires c κs = search needs
+
+-- src/frames.rt:169:5
+put-words-requires : tie.Need-put-words-requires
+put-words-requires c κs = search needs
+
+-- src/frames.rt:161:1
+same-length : tie.Need-same-length
+same-length c = search needs
+
+-- src/frames.rt:161:1
+same-length-2 : tie.Need-same-length-2
+same-length-2 c = search needs
+
+-- src/frames.rt:161:1
+same-length-3 : tie.Need-same-length-3
+same-length-3 c = search needs
+
+-- src/frames.rt:161:1
+same-length-4 : tie.Need-same-length-4
+same-length-4 c = search needs
+
+-- src/frames.rt:161:1
+returns : tie.Need-returns
+returns c = search (needs, serves)
+
+pub serve-frame-spec : {M : Type 1} → statement M
+serve-frame-spec =
+    tie.close
+    (tie.spec
+    put-standings-requires
+    one-frame-requires
+    put-words-requires
+    same-length
+    same-length-2
+    same-length-3
+    same-length-4
+    returns)

@@ -1,0 +1,189 @@
+// Frames served and replayed, and what is let go of after them.
+use crate::DeskState;
+use crate::showing::known_count;
+use crate::showing::put_words;
+use sync_layer::discard_seats;
+use sync_layer::reset_seats;
+use sync_layer::save_slot;
+use sync_layer::seat_at;
+use sync_layer::set_seat;
+use sync_layer::slot_of;
+use sync_layer::state_in;
+ghost use mathlib.Core.Path.{_≡_};
+ghost use mathlib.Core.List.{[]};
+ghost use Prim.Native.Nat.{_+_, _-_, _*_, _≤_, _<_};
+ghost use lib.ListN.{length};
+ghost use Rattle.frame_info.specs.Frame.{lastCount};
+ghost use Rattle.frame_info.specs.Word.{predicted};
+ghost use Rattle.console.specs.Step.{stepOf};
+ghost use Rattle.input_queue.specs.Queue.{asked, answer, confirms};
+ghost use Rattle.input_queue.specs.Ring.{wordAt};
+ghost use Rattle.sync_layer.specs.Lists.{writeRow};
+ghost use Rattle.sync_layer.specs.Seats.{ringOf, seatAt, mapSeats};
+ghost use Rattle.sync_layer.specs.Calls.{standingOf};
+ghost use Rattle.sync_layer.specs.Whole.{WordRoom, SlotRoom};
+ghost use Rattle.desk.specs.Desk as m;
+ghost use Rattle.desk.specs.Calls as calls;
+ghost use Rattle.desk.specs.Whole.{Ready, Seated, Whole};
+
+// Asks every seat for the current frame. The words go into the frame's slot, from a place on.
+fn serve_seats(seats: &mut [u32], words: &[u32], slots: &mut [u32], desk: DeskState, from: usize)
+    requires { ⌜ Seated desk (now seats) × WordRoom (now words) × (from + 4 ≤ length (now slots)) × (from ≤ 244) ⌝ }
+    ensures { λ _. ⌜ (now (seats .exit) ≡ mapSeats (desk .seats) (λ i q. asked (predicted (desk .predictor)) (wordAt (now (words .entry)) (ringOf i)) q (desk .current)) (now (seats .entry)))
+        × (now (slots .exit) ≡ writeRow (desk .seats) (now (slots .entry)) from (λ i. answer (predicted (desk .predictor)) (wordAt (now (words .entry)) (ringOf i)) (seatAt (now (seats .entry)) i) (desk .current))) ⌝ }
+{
+    let n = desk.seats as usize;
+    let current = desk.current;
+    let predictor = desk.predictor;
+    let mut i: usize = 0;
+    while i < n {
+        let s = seat_at(&seats[..], i);
+        let asked = input_queue::ask(words, i * 128, s, predictor, current);
+        let state = asked.state;
+        set_seat(seats, i, state);
+        slots[from + i] = asked.word;
+        i += 1;
+    }
+}
+
+// One frame: save, request all seats, step, current + 1.
+fn one_frame(seats: &mut [u32], words: &[u32], slots: &mut [u32], desk: DeskState) -> DeskState
+    requires { ⌜ Whole (m.deskOf desk (now seats) (now words) (now slots)) ⌝ }
+    ensures { λ r. ⌜ m.deskOf r (now (seats .exit)) (now (words .entry)) (now (slots .exit)) ≡ calls.frameOn (m.deskOf desk (now (seats .entry)) (now (words .entry)) (now (slots .entry))) ⌝ }
+{
+    let limit = desk.limit;
+    let current = desk.current;
+    let state = desk.console;
+    save_slot(slots, limit, current, state);
+    let from = slot_of(limit, current) + 4;
+    serve_seats(seats, words, slots, desk, from);
+    let end = from + desk.seats as usize;
+    let console = state.step(&slots[from..end]);
+    DeskState {
+        seats: desk.seats,
+        limit,
+        predictor: desk.predictor,
+        current: current + 1,
+        console,
+    }
+}
+
+// To the end: one frame and then the rest of the replay.
+fn replay(
+    seats: &mut [u32],
+    words: &[u32],
+    slots: &mut [u32],
+    desk: DeskState,
+    end: u32,
+) -> DeskState
+    requires { ⌜ Whole (m.deskOf desk (now seats) (now words) (now slots)) × (desk .current ≤ end) × (end < lastCount) ⌝ }
+    ensures { λ r. ⌜ m.deskOf r (now (seats .exit)) (now (words .entry)) (now (slots .exit)) ≡ m.replay stepOf (predicted (desk .predictor)) (end - desk .current) (m.deskOf desk (now (seats .entry)) (now (words .entry)) (now (slots .entry))) ⌝ }
+{
+    if desk.current >= end {
+        return desk;
+    }
+    let next = one_frame(seats, words, slots, desk);
+    replay(seats, words, slots, next, end)
+}
+
+// The desk at a saved frame.
+fn load(slots: &[u32], desk: DeskState, frame: u32) -> DeskState
+    requires { ⌜ Ready desk × SlotRoom (now slots) ⌝ }
+    ensures { λ r. ⌜ r ≡ m.load (m.deskOf desk [] [] (now (slots .entry))) frame .state ⌝ }
+{
+    let limit = desk.limit;
+    let console = state_in(slots, limit, frame);
+    DeskState {
+        seats: desk.seats,
+        limit,
+        predictor: desk.predictor,
+        current: frame,
+        console,
+    }
+}
+
+// Where a mismatch stands: load the lowest, reset all, and replay to the current frame.
+pub fn correct(
+    seats: &mut [u32],
+    words: &[u32],
+    slots: &mut [u32],
+    desk: DeskState,
+    lowest: u32,
+) -> DeskState
+    requires { ⌜ Whole (m.deskOf desk (now seats) (now words) (now slots)) × (lowest ≡ m.mismatchOf (m.deskOf desk (now seats) (now words) (now slots))) ⌝ }
+    ensures { λ r. ⌜ m.deskOf r (now (seats .exit)) (now (words .entry)) (now (slots .exit)) ≡ m.corrected stepOf (predicted (desk .predictor)) (m.deskOf desk (now (seats .entry)) (now (words .entry)) (now (slots .entry))) ⌝ }
+{
+    if lowest == 0 {
+        return desk;
+    }
+    let back = load(&slots[..], desk, lowest - 1);
+    reset_seats(seats, desk.seats as usize);
+    replay(seats, words, slots, back, desk.current)
+}
+
+pub fn lesser(a: u32, b: u32) -> u32
+    ensures { λ r. ⌜ r ≡ Prim.Native.Nat.min a b ⌝ }
+{
+    if a < b { a } else { b }
+}
+
+// Confirms K: the queues let go of what is before it.
+pub fn confirm(seats: &mut [u32], desk: DeskState)
+    requires { ⌜ Seated desk (now seats) ⌝ }
+    ensures { λ _. ⌜ m.deskOf desk (now (seats .exit)) [] [] ≡ m.confirm (m.deskOf desk (now (seats .entry)) [] []) ⌝ }
+{
+    let known = known_count(&seats[..], desk);
+    if known == 0 {
+        return;
+    }
+    let frame = lesser(known - 1, desk.current);
+    if frame == 0 {
+        return;
+    }
+    discard_seats(seats, desk.seats as usize, frame - 1);
+}
+
+// 0 where a request of the frame will be confirmed, 1 where it will be predicted.
+fn standing_at(seats: &[u32], seat: usize, current: u32) -> u32
+    requires { ⌜ (seat + 1) * 8 ≤ length (now seats) ⌝ }
+    ensures { λ r. ⌜ r ≡ standingOf (confirms (seatAt (now (seats .entry)) seat) current) ⌝ }
+{
+    let s = seat_at(seats, seat);
+    if s.predicting != 0 {
+        return 1;
+    }
+    if current < s.added { 0 } else { 1 }
+}
+
+fn put_standings(seats: &[u32], desk: DeskState, standings: &mut [u32])
+    requires { ⌜ Seated desk (now seats) × (desk .seats ≤ length (now standings)) ⌝ }
+    ensures { λ _. ⌜ now (standings .exit) ≡ writeRow (desk .seats) (now (standings .entry)) 0 (calls.standing (m.deskOf desk (now (seats .entry)) [] [])) ⌝ }
+{
+    let n = desk.seats as usize;
+    let current = desk.current;
+    let mut i: usize = 0;
+    while i < n {
+        standings[i] = standing_at(seats, i, current);
+        i += 1;
+    }
+}
+
+// One frame, with the words served and their standings lent back.
+pub fn serve_frame(
+    seats: &mut [u32],
+    words: &[u32],
+    slots: &mut [u32],
+    desk: DeskState,
+    served: &mut [u32],
+    standings: &mut [u32],
+) -> DeskState
+    requires { ⌜ Whole (m.deskOf desk (now seats) (now words) (now slots)) × (desk .seats ≤ length (now served)) × (desk .seats ≤ length (now standings)) ⌝ }
+    ensures { λ r. ⌜ (m.deskOf r (now (seats .exit)) (now (words .entry)) (now (slots .exit)) ≡ calls.frameOn (m.deskOf desk (now (seats .entry)) (now (words .entry)) (now (slots .entry))))
+        × (now (served .exit) ≡ writeRow (desk .seats) (now (served .entry)) 0 (calls.servedWord (m.deskOf desk (now (seats .entry)) (now (words .entry)) (now (slots .entry)))))
+        × (now (standings .exit) ≡ writeRow (desk .seats) (now (standings .entry)) 0 (calls.standing (m.deskOf desk (now (seats .entry)) (now (words .entry)) (now (slots .entry))))) ⌝ }
+{
+    put_standings(&seats[..], desk, standings);
+    let next = one_frame(seats, words, slots, desk);
+    put_words(&slots[..], desk, desk.current, served);
+    next
+}
