@@ -12,7 +12,6 @@ use sync_layer::SEAT_WORDS;
 use sync_layer::SLOT_WORDS;
 ghost use mathlib.Core.Path.{_≡_};
 ghost use Prim.Native.Nat.{_≤_};
-ghost use lib.IntN.{ℤ};
 ghost use lib.ListN.{length};
 ghost use Rattle.desk.specs.Calls as calls;
 ghost use Rattle.desk_value.specs.Value as held;
