@@ -12,8 +12,8 @@ ROOT = os.path.dirname(HERE)
 BUILT = os.path.join(HERE, "target", "release")
 LONGEST = 4096
 
-KINDS = ["queue", "delta", "sync", "layer"]
-SETUP = {"queue": b"queue", "delta": None, "sync": b"sync", "layer": b"layer"}
+KINDS = ["queue", "delta", "sync", "layer", "desk"]
+SETUP = {"queue": b"queue", "delta": None, "sync": b"sync", "layer": b"layer", "desk": b"desk"}
 
 
 def stop(why):

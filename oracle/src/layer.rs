@@ -18,13 +18,27 @@ const LOAD_PANICS: [(&str, u32); 3] =
     [("must load frame in the past", 8), ("outside of prediction window", 9), ("left == right", 10)];
 const CONFIRM_PANICS: [(&str, u32); 1] = [("first_incorrect >= frame", 15)];
 
-type State = [u32; 3];
+/// The console: head, kind, seal.
+pub type State = [u32; 3];
 
 pub struct Layer {
     layer: SyncLayer<Words>,
     predictor: u32,
     /// A queue of the original points at the wrong slot, and the layer cannot be compared before the next setup.
     lost: bool,
+}
+
+/// A fresh layer of the original, with one delay a seat: 1 where anything is out of range.
+pub fn fresh(limit: u32, predictor: u32, delays: &[u32]) -> Result<SyncLayer<Words>, No> {
+    let seats = (1..=MOST_SEATS).contains(&delays.len());
+    if !seats || limit > MOST_LIMIT || predictor >= PREDICTORS || delays.iter().any(|&delay| delay > MOST_DELAY) {
+        return no(1);
+    }
+    let mut layer = SyncLayer::new(delays.len(), limit as usize);
+    for (seat, &delay) in delays.iter().enumerate() {
+        layer.set_frame_delay(seat, delay as usize);
+    }
+    Ok(layer)
 }
 
 fn connections(statuses: &[Option<Frame>]) -> Vec<ConnectionStatus> {
@@ -34,7 +48,7 @@ fn connections(statuses: &[Option<Frame>]) -> Vec<ConnectionStatus> {
         .collect()
 }
 
-fn state_in(cell: GameStateCell<State>) -> Result<State, No> {
+pub fn state_in(cell: GameStateCell<State>) -> Result<State, No> {
     cell.load().ok_or_else(|| No::Panic("none, but a cell that was saved holds no state".into()))
 }
 
@@ -60,15 +74,8 @@ impl Layer {
 
     fn setup(&mut self, limit: u32, predictor: u32, delays: &[u32]) -> Result<(), No> {
         *self = Layer::new();
-        let seats = (1..=MOST_SEATS).contains(&delays.len());
-        if !seats || limit > MOST_LIMIT || predictor >= PREDICTORS || delays.iter().any(|&delay| delay > MOST_DELAY) {
-            return no(1);
-        }
+        self.layer = fresh(limit, predictor, delays)?;
         self.predictor = predictor;
-        self.layer = SyncLayer::new(delays.len(), limit as usize);
-        for (seat, &delay) in delays.iter().enumerate() {
-            self.layer.set_frame_delay(seat, delay as usize);
-        }
         Ok(())
     }
 

@@ -36,6 +36,7 @@ use host::{Config, Frame, GgrsRequest, InputPredictor, InputStatus, PlayerHandle
 use sheet::{Answers, Fields, LONGEST};
 
 struct Oracle {
+    desk: desk::Desk,
     layer: layer::Layer,
     queue: queue::Queue,
     windows: time_sync::TimeSync,
@@ -52,7 +53,7 @@ impl Oracle {
             _ if name.starts_with(b"l.") => self.layer.call(name, fields, out),
             _ if name.starts_with(b"q.") => self.queue.call(name, fields, out),
             _ if name.starts_with(b"s.") => sync::call(&mut self.windows, name, fields, out),
-            _ => desk::call(name, fields, out),
+            _ => self.desk.call(name, fields, out),
         }
     }
 
@@ -76,8 +77,12 @@ fn main() -> io::Result<()> {
     refusal::silence();
     let mut sheet = Vec::new();
     io::stdin().lock().read_to_end(&mut sheet)?;
-    let mut oracle =
-        Oracle { layer: layer::Layer::new(), queue: queue::Queue::new(), windows: time_sync::TimeSync::new() };
+    let mut oracle = Oracle {
+        desk: desk::Desk::new(),
+        layer: layer::Layer::new(),
+        queue: queue::Queue::new(),
+        windows: time_sync::TimeSync::new(),
+    };
     let mut out = Answers::new();
     for line in sheet.split(|&b| b == b'\n') {
         oracle.line(line, &mut out);

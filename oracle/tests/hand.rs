@@ -59,6 +59,25 @@ fn layer() {
 }
 
 #[test]
+fn desk() {
+    hold(include_str!("desk.hand"));
+}
+
+/// 128 undiscarded: the next gives 4, and an advance makes room again.
+#[test]
+fn full_queue() {
+    let mut sheet = String::from("desk 3 0 60 0\ntake 1 0 5\n");
+    let mut wanted = String::from("0\n0 0\n");
+    for frame in 0..68 {
+        sheet += &format!("take 0 {frame} 1\n");
+        wanted += &format!("0 {}\n", frame + 60);
+    }
+    sheet += "take 0 68 1\nadvance\nadvance\ntake 0 68 1\ntake 1 1 5\ntake 1 2 5\nsettle\ntake 0 68 1\ntake 0 69 1\n";
+    wanted += "4\n0 -1 0 00000000 c 00000005 c\n0 -1 0 00000000 c 00000005 p\n4\n0 1\n0 2\n0 -1 0\n0 128\n4\n";
+    assert_eq!(answers(sheet.as_bytes()), wanted);
+}
+
+#[test]
 fn lines() {
     let full = |call: &str, length: usize| format!("{call}{}", " ".repeat(length - call.len()));
     let sheet = [

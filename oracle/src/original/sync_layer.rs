@@ -8,6 +8,10 @@ impl<T: Config> SyncLayer<T> {
         &self.input_queues
     }
 
+    pub(crate) fn put_back_one(&mut self, seat: usize, queue: InputQueue<T>) {
+        self.input_queues[seat] = queue;
+    }
+
     pub(crate) fn put_back(&mut self, queues: Vec<InputQueue<T>>) {
         self.input_queues = queues;
     }

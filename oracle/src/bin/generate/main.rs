@@ -4,6 +4,7 @@ use std::io::{self, Write};
 use std::process::exit;
 
 mod delta;
+mod desk;
 mod layer;
 mod model;
 mod queue;
@@ -11,7 +12,7 @@ mod random;
 mod sheet;
 mod sync;
 
-const USE: &str = "use: generate SEED LINES KIND, with KIND queue, delta, sync or layer";
+const USE: &str = "use: generate SEED LINES KIND, with KIND queue, delta, sync, layer or desk";
 
 fn main() -> io::Result<()> {
     let given: Vec<String> = std::env::args().skip(1).collect();
@@ -23,6 +24,7 @@ fn main() -> io::Result<()> {
         "delta" => delta::sheet(&mut sheet, seed),
         "sync" => sync::sheet(&mut sheet),
         "layer" => layer::sheet(&mut sheet),
+        "desk" => desk::sheet(&mut sheet),
         _ => stop(),
     }
     io::stdout().lock().write_all(&sheet.finish())
