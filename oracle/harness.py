@@ -1,4 +1,4 @@
-"""What compare and sample share: where things stand, the build, the runs, and which lines of a sheet are calls."""
+"""What compare, sample and nights share: where things stand, the build, the runs, and which lines of a sheet are calls."""
 
 import glob
 import os
