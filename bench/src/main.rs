@@ -60,8 +60,11 @@ fn nights(frames: u32, runs: usize) {
     }
     println!("two seats, {frames} frames, {} corrections, {} frames played again", ours.corrections, ours.replayed);
     println!("both end with head {:08x}, kind {}, seal {:08x}", ours.console[0], ours.console[1], ours.console[2]);
-    let [ours, theirs] =
-        least(runs, frames, [&mut || _ = black_box(played::<ours::Lent>(frames)), &mut || _ = black_box(played::<theirs::Ggrs>(frames))]);
+    let [ours, theirs] = least(
+        runs,
+        frames,
+        [&mut || _ = black_box(played::<ours::Lent>(frames)), &mut || _ = black_box(played::<theirs::Ggrs>(frames))],
+    );
     row("a frame, lent desk", ours, theirs);
     // The desk by value has its row here, once its crate and its face are there.
 }
