@@ -12,10 +12,12 @@ use Rattle.console.specs.declared.Console.{Console}
 use Rattle.desk.specs.declared.DeskState.{DeskState}
 use Rattle.desk.specs.declared.Taken.{Taken}
 use Rattle.desk.specs.declared.Report.{Report}
+use Rattle.desk.specs.declared.Shown.{Shown}
+use Rattle.desk.specs.declared.Logged.{Logged}
 use Rattle.desk.specs.Desk.{Desk, deskOf, take, advanceAnswer}
 use Rattle.desk.specs.Calls as calls
 use Rattle.desk.specs.Whole.{Seated, Whole}
-use Rattle.desk_face.specs.Lists.{stateWords, numbersOf, deskAt, setDesk, setOne, setReport}
+use Rattle.desk_face.specs.Lists.{stateWords, numbersOf, deskAt, setDesk, setOne, setReport, setConsole}
 
 pub desk-long : (l : List ℕ) (y : DeskState) → length (setDesk l y) ≡ length l
 unfolding setDesk
@@ -51,7 +53,11 @@ pub report-written : (l : List ℕ) (r : Report) (n : ℕ) (f′ : ℤ) → f′
 unfolding setReport
 report-written l r n f′ e a = ap (λ (x : ℕ). set (set l 0 x) 1 (r .count)) (a ∙ ap countOf e)
 
-pub ruleset lists = (desk-read, desk-written, report-written)
+pub console-written : (l : List ℕ) (c : Console) → set (set (set l 0 (c .head)) 1 (c .kind)) 2 (c .seal) ≡ setConsole l c
+unfolding setConsole
+console-written l c = refl
+
+pub ruleset lists = (desk-read, desk-written, report-written, console-written)
 
 -- The desk that was read, y, is the one in the list, z.
 module _ (y z : DeskState) (e : y ≡ z) where
@@ -151,4 +157,40 @@ module _ (y z : DeskState) (e : y ≡ z) (l w m : List ℕ) where
 
 pub ruleset settling = (settle-state, settle-seats, settle-slots, settle-said)
 
+-- Show and log
+module _ (y z : DeskState) (e : y ≡ z) (l m : List ℕ) (f f′ : ℤ) (g : f′ ≡ f) where
+  module _ (t : Shown) (a : t ≡ calls.showSays (deskOf y l [] m) f′) where
+    showed : t ≡ calls.showSays (deskOf z l [] m) f
+    showed = a ∙ ap₂ (λ (x : DeskState) (i : ℤ). calls.showSays (deskOf x l [] m) i) e g
+
+    pub show-no : t .no ≡ calls.showSays (deskOf z l [] m) f .no
+    show-no = ap (λ (x : Shown). x .no) showed
+
+    pub show-said : (k k′ : List ℕ) → k′ ≡ setConsole k (t .console) → k′ ≡ setConsole k (calls.showSays (deskOf z l [] m) f .console)
+    show-said k k′ b = b ∙ ap (λ (x : Shown). setConsole k (x .console)) showed
+
+  pub show-words : (k k′ : List ℕ) → k′ ≡ calls.showWords (deskOf y l [] m) f′ k → k′ ≡ calls.showWords (deskOf z l [] m) f k
+  show-words k k′ a = a ∙ ap₂ (λ (x : DeskState) (i : ℤ). calls.showWords (deskOf x l [] m) i k) e g
+
+  module _ (k : List ℕ) where
+    module _ (t : Logged) (a : t ≡ calls.logSays (deskOf y l [] m) f′ k) where
+      logged : t ≡ calls.logSays (deskOf z l [] m) f k
+      logged = a ∙ ap₂ (λ (x : DeskState) (i : ℤ). calls.logSays (deskOf x l [] m) i k) e g
+
+      pub log-no : t .no ≡ calls.logSays (deskOf z l [] m) f k .no
+      log-no = ap (λ (x : Logged). x .no) logged
+
+      pub log-said : (n : List ℕ) → set n 0 (t .count) ≡ setOne n (calls.logSays (deskOf z l [] m) f k .count)
+      log-said n = ap (λ (x : Logged). setOne n (x .count)) logged
+
+    pub log-bytes : (k′ : List ℕ) → k′ ≡ calls.logBytes (deskOf y l [] m) f′ k → k′ ≡ calls.logBytes (deskOf z l [] m) f k
+    log-bytes k′ a = a ∙ ap₂ (λ (x : DeskState) (i : ℤ). calls.logBytes (deskOf x l [] m) i k) e g
+
+pub known-frame : (y z : DeskState) → y ≡ z → (l : List ℕ) (r : ℤ) → r ≡ calls.knownFrame (deskOf y l [] []) → r ≡ calls.knownFrame (deskOf z l [] [])
+known-frame y z e l r a = a ∙ ap (λ (x : DeskState). calls.knownFrame (deskOf x l [] [])) e
+
+pub ruleset showing = (show-no, show-said, show-words, log-no, log-said, log-bytes, known-frame)
+
 pub ruleset faces = (lists, reading, setting, taking, settling)
+
+pub ruleset looks = (lists, reading, showing)

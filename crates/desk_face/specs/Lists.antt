@@ -38,6 +38,9 @@ setOne l n = set l 0 n
 unfoldable pub setReport : List ℕ → Report → List ℕ
 setReport l r = set (set l 0 (countOf (r .frame))) 1 (r .count)
 
+unfoldable pub setConsole : List ℕ → Console → List ℕ
+setConsole l c = set (set (set l 0 (c .head)) 1 (c .kind)) 2 (c .seal)
+
 -- the layer's own numbers, in the order of the record's fields
 abbrev pub layerWords : ℕ
 layerWords = 6

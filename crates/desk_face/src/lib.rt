@@ -20,7 +20,7 @@ ghost use Rattle.sync_layer.specs.Whole.{SeatRoom, WordRoom, SlotRoom};
 ghost use Rattle.desk.specs.Desk as m;
 ghost use Rattle.desk.specs.Calls as calls;
 ghost use Rattle.desk.specs.Whole.{Seated, Whole};
-ghost use Rattle.desk_face.specs.Lists.{stateWords, deskAt, setDesk, setOne, setReport};
+ghost use Rattle.desk_face.specs.Lists.{stateWords, deskAt, setDesk, setOne, setReport, setConsole};
 
 fn desk_at(state: &[u32]) -> DeskState
     requires { ⌜ stateWords ≤ length (now state) ⌝ }
@@ -59,6 +59,15 @@ fn set_report(said: &mut [u32], report: desk::Report)
 {
     said[0] = count_of(report.frame);
     said[1] = report.count;
+}
+
+fn set_console(said: &mut [u32], console: Console)
+    requires { ⌜ 3 ≤ length (now said) ⌝ }
+    ensures { λ _. ⌜ now (said .exit) ≡ setConsole (now (said .entry)) console ⌝ }
+{
+    said[0] = console.head;
+    said[1] = console.kind;
+    said[2] = console.seal;
 }
 
 #[no_mangle]
@@ -154,4 +163,58 @@ pub extern "C" fn desk_advance(
     set_desk(state, after);
     set_report(said, report);
     a.no
+}
+
+// `said` has the console after the frame, and all 0 where the frame is refused.
+#[no_mangle]
+pub extern "C" fn desk_show(
+    state: &[u32],
+    seats: &[u32],
+    slots: &[u32],
+    frame: i32,
+    shown: &mut [u32],
+    said: &mut [u32],
+) -> u32
+    requires { ⌜ (stateWords ≤ length (now state)) × Seated (deskAt (now state)) (now seats) × SlotRoom (now slots)
+        × (deskAt (now state) .seats ≤ length (now shown)) × (3 ≤ length (now said)) ⌝ }
+    ensures { λ r. ⌜ (r ≡ calls.showSays (m.deskOf (deskAt (now (state .entry))) (now (seats .entry)) [] (now (slots .entry))) frame .no)
+        × (now (said .exit) ≡ setConsole (now (said .entry)) (calls.showSays (m.deskOf (deskAt (now (state .entry))) (now (seats .entry)) [] (now (slots .entry))) frame .console))
+        × (now (shown .exit) ≡ calls.showWords (m.deskOf (deskAt (now (state .entry))) (now (seats .entry)) [] (now (slots .entry))) frame (now (shown .entry))) ⌝ }
+{
+    let desk = desk_at(state);
+    let s = desk::show(slots, seats, desk, frame, shown);
+    let console = s.console;
+    set_console(said, console);
+    s.no
+}
+
+// `said` has the number of bytes written.
+#[no_mangle]
+pub extern "C" fn desk_log(
+    state: &[u32],
+    seats: &[u32],
+    slots: &[u32],
+    frame: i32,
+    line: &mut [u8],
+    said: &mut [u32],
+) -> u32
+    requires { ⌜ (stateWords ≤ length (now state)) × Seated (deskAt (now state)) (now seats) × SlotRoom (now slots) × (1 ≤ length (now said)) ⌝ }
+    ensures { λ r. ⌜ (r ≡ calls.logSays (m.deskOf (deskAt (now (state .entry))) (now (seats .entry)) [] (now (slots .entry))) frame (now (line .entry)) .no)
+        × (now (said .exit) ≡ setOne (now (said .entry)) (calls.logSays (m.deskOf (deskAt (now (state .entry))) (now (seats .entry)) [] (now (slots .entry))) frame (now (line .entry)) .count))
+        × (now (line .exit) ≡ calls.logBytes (m.deskOf (deskAt (now (state .entry))) (now (seats .entry)) [] (now (slots .entry))) frame (now (line .entry))) ⌝ }
+{
+    let desk = desk_at(state);
+    let w = desk::log(slots, seats, desk, frame, line);
+    said[0] = w.count;
+    w.no
+}
+
+// K, -1 where a seat has no word.
+#[no_mangle]
+pub extern "C" fn desk_known(state: &[u32], seats: &[u32]) -> i32
+    requires { ⌜ (stateWords ≤ length (now state)) × Seated (deskAt (now state)) (now seats) ⌝ }
+    ensures { λ r. ⌜ r ≡ calls.knownFrame (m.deskOf (deskAt (now (state .entry))) (now (seats .entry)) [] []) ⌝ }
+{
+    let desk = desk_at(state);
+    desk::known(seats, desk)
 }
