@@ -1,78 +1,106 @@
--- A line keeps what the next one presumes of the queue. Assumes nothing.
-use Prim.Native.Nat.{ℕ, _+_, _≤_}
+-- A line keeps what the next one presumes. Assumes nothing.
+use Prim.Native.Nat.{ℕ, _+_, _≤_, _<_}
 use native.Mathlib.Omega.{arith}
-use mathlib.Core.Path.{_≡_, refl, sym}
-use mathlib.Core.Logic.{⊎-elim}
-use mathlib.Core.List.{List}
+use mathlib.Core.Path.{_≡_, refl, sym, subst}
+use mathlib.Core.List.{List, [], _∷_}
 use lib.ListN.{length}
-use Rattle.frame_info.proofs.Split.{split-eqb}
+use lib.Seq.{sets, length-sets}
+use borrow.Author.Tests.{eq-eqb, ne-eqb}
+use Rattle.input_queue.specs.Whole as queues
+use Rattle.input_queue.specs.Calls as queue
 use Rattle.input_queue.specs.declared.QueueState.{QueueState}
 use Rattle.input_queue.specs.declared.Opened.{Opened}
-use Rattle.input_queue.specs.Calls as queue
-use Rattle.input_queue.specs.Whole.{Whole}
-use Rattle.input_queue.proofs.Kept.{opened-sane, add-whole, served-whole, discarded-whole, reset-whole, delayed-whole}
-use Rattle.sheet.specs.Calls.{PASSED, BAD}
-use Rattle.sheet.specs.Reading.{argsAfter}
-use Rattle.cuesheet.specs.declared.queue.Held.{Held}
-use Rattle.cuesheet.specs.declared.queue.Told.{Told}
-use Rattle.cuesheet.specs.declared.Run.{Run}
-use Rattle.cuesheet.specs.Queue.{numberArg, frameArg, inputArg, heldAfter, wordsAfter}
-use Rattle.cuesheet.specs.Line.{callOf, heldBy, wordsBy}
+use Rattle.input_queue.proofs.Kept.{opened-sane}
+use Rattle.sync_layer.specs.Whole as layers
+use Rattle.sync_layer.specs.declared.LayerState.{LayerState}
+use Rattle.time_sync.specs.declared.TimeSync.{TimeSync}
+use Rattle.desk.specs.Whole as desks
+use Rattle.desk.specs.Desk.{deskOf}
+use Rattle.desk.specs.declared.DeskState.{DeskState}
+use Rattle.sheet.specs.Calls.{PASSED}
+use Rattle.sheet.specs.Reading.{readingOf, argsAfter}
+use Rattle.cues_queue.specs.declared.Held.{Held}
+use Rattle.cuesheet.specs.declared.World.{World}
+use Rattle.cuesheet.specs.Lines.{idleText, badText, withFilled, withQueue, withLayer, withSync, withDesk}
 use Rattle.cuesheet.specs.Running.{Running}
 
-make-whole : (call : ℕ) (a l : List ℕ) (h : Held) → Whole l 0 (h .state) → Whole (wordsAfter call a l h) 0 (heldAfter call a l h .state)
-unfolding wordsAfter heldAfter
-make-whole call a l h w =
-    ⊎-elim
-    (λ e. rw (e .0) (record { room = w .room; numbers = opened-sane (numberArg a 0) (numberArg a 1) }))
-    (λ e₀. ⊎-elim
-    (λ e. rw (e .0) (add-whole l 0 (h .state) w (inputArg a)))
-    (λ e₁. simp (e₁ .1) (⊎-elim
-    (λ e. rw (e .0) (served-whole l 0 (h .state) w (h .predictor) (frameArg a 0)))
-    (λ e₂. ⊎-elim
-    (λ e. rw (e .0) (discarded-whole l 0 (h .state) w (frameArg a 0)))
-    (λ e₃. ⊎-elim
-    (λ e. rw (e .0) (reset-whole l 0 (h .state) w))
-    (λ e₄. ⊎-elim
-    (λ e. rw (e .0) (delayed-whole l 0 (h .state) w (numberArg a 0)))
-    (λ e₅. simp (e₀ .1, e₂ .1, e₃ .1, e₄ .1, e₅ .1) w)
-    (split-eqb call 6))
-    (split-eqb call 5))
-    (split-eqb call 4))
-    (split-eqb call 2)))
-    (split-eqb call 1))
-    (split-eqb call 0)
+-- ---- one part of what is in force is new, and the others are as they were
 
-pub line-whole : (line a l : List ℕ) (h : Held) → Whole l 0 (h .state) → Whole (wordsBy line a l h) 0 (heldBy line a l h .state)
-unfolding wordsBy heldBy
-line-whole line a l h w =
-    ⊎-elim
-    (λ e. simp (e .1) w)
-    (λ e. ⊎-elim
-    (λ d. simp (e .1, d .1) w)
-    (λ d. simp (e .1, d .1) (make-whole (callOf line) (argsAfter line a) l h w))
-    (split-eqb (callOf line) BAD))
-    (split-eqb (callOf line) PASSED)
+module _ (ring s w k s′ w′ k′ : List ℕ) (x r : World) (n : ℕ) (h : Running ring s w k s′ w′ k′ x) (f : n + 16385 ≤ 65536) where
+  pub kept-filled : r ≡ withFilled x n → Running ring s w k s′ w′ k′ r
+  kept-filled e = rw e (record { queue = h .queue; layer = h .layer; desk = h .desk; room = f })
 
--- as the program meets it
-pub ended : (line a l : List ℕ) (r : Run) (m : List ℕ) (g : Held) (f : ℕ) → Running l r → g ≡ heldBy line a l (r .held) → m ≡ wordsBy line a l (r .held) → f + 64 ≤ 65536
-    → Running m (record { held = g; used = 0; filled = f })
-ended line a l r m g f k d e p = record { whole = rw (d, e) (line-whole line a l (r .held) (k .whole)); short = omega arith; room = p }
+  pub kept-sync : (t : TimeSync) → r ≡ withSync x t n → Running ring s w k s′ w′ k′ r
+  kept-sync t e = rw e (record { queue = h .queue; layer = h .layer; desk = h .desk; room = f })
 
-pub longer : (l : List ℕ) (r : Run) (u : ℕ) → Running l r → u ≤ 4097 → Running l (record { held = r .held; used = u; filled = r .filled })
-longer l r u k p = record { whole = k .whole; short = p; room = k .room }
+  pub kept-queue : (g : Held) (ring₁ : List ℕ) → queues.Whole ring₁ 0 (g .state) → r ≡ withQueue x g n → Running ring₁ s w k s′ w′ k′ r
+  kept-queue g ring₁ p e = rw e (record { queue = p; layer = h .layer; desk = h .desk; room = f })
 
-pub ruleset keeping = (ended, longer)
+  pub kept-layer : (y : LayerState) (s₁ w₁ k₁ : List ℕ) → layers.Whole y s₁ w₁ k₁ → r ≡ withLayer x y n → Running ring s₁ w₁ k₁ s′ w′ k′ r
+  kept-layer y s₁ w₁ k₁ p e = rw e (record { queue = h .queue; layer = p; desk = h .desk; room = f })
 
--- the loops over a sheet's bytes: every lent list keeps its length
-pub record Fed (line₀ args₀ words₀ out₀ line args words out : List ℕ) (r : Run) : Type 0 where
-  pub running : Running words r
-  pub lines : length line ≡ length line₀
-  pub fields : length args ≡ length args₀
-  pub rings : length words ≡ length words₀
-  pub outs : length out ≡ length out₀
+  pub kept-desk : (d : DeskState) (s₁ w₁ k₁ : List ℕ) → desks.Whole (deskOf d s₁ w₁ k₁) → r ≡ withDesk x d n → Running ring s w k s₁ w₁ k₁ r
+  kept-desk d s₁ w₁ k₁ p e = rw e (record { queue = h .queue; layer = h .layer; desk = p; room = f })
 
--- a fresh queue with nothing read
-pub fresh-running : (o : Opened) (words : List ℕ) → o ≡ queue.opened 0 0 → 128 ≤ length words → Running words (record { held = record { predictor = o .predictor; state = o .state }; used = 0; filled = 0 })
-fresh-running o words e p =
-    record { whole = record { room = omega arith; numbers = rw e (opened-sane 0 0) }; short = omega arith; room = omega arith }
+pub ruleset keeping = (kept-filled, kept-sync, kept-queue, kept-layer, kept-desk)
+
+-- ---- a line that makes no call: the texts' ends and lists
+
+module _ (call at : ℕ) (out : List ℕ) where
+  pub passed-end : call ≡ PASSED → at ≡ at + length (idleText call)
+  unfolding idleText
+  passed-end e = simp (eq-eqb _ _ e) (omega arith)
+
+  pub passed-out : call ≡ PASSED → out ≡ sets out at (idleText call)
+  unfolding idleText
+  passed-out e = simp (eq-eqb _ _ e)
+
+  pub bad-end : (r : ℕ) → (call ≡ PASSED → ⊥) → r ≡ at + 4 → r ≡ at + length (idleText call)
+  unfolding idleText
+  bad-end r n e = simp (ne-eqb _ _ n) e
+
+  pub bad-out : (r : List ℕ) → (call ≡ PASSED → ⊥) → r ≡ sets out at badText → r ≡ sets out at (idleText call)
+  unfolding idleText
+  bad-out r n e = simp (ne-eqb _ _ n) e
+
+pub ruleset idle = (passed-end, passed-out, bad-end, bad-out)
+
+-- ---- reading a line keeps the fields' list as long as it was
+
+pub args-same : (line a m : List ℕ) → m ≡ argsAfter line a → length m ≡ length a
+unfolding argsAfter
+args-same line a m e = rw e (length-sets a 0 (readingOf line .values))
+
+-- ---- at the start
+
+pub queue-fresh : (o : Opened) (ring : List ℕ) → 128 ≡ length ring → o ≡ queue.opened 0 0 → queues.Whole ring 0 (o .state)
+queue-fresh o ring p e = record { room = omega arith; numbers = rw e (opened-sane 0 0) }
+
+pub layer-fresh : (y : LayerState) (s w k : List ℕ) → layers.Seated y s → layers.WordRoom w → layers.SlotRoom k → layers.Whole y s w k
+layer-fresh y s w k a b d = record { seated = a; wide = b; deep = d }
+
+pub desk-fresh : (y : DeskState) (s w k : List ℕ) → desks.Seated y s → layers.WordRoom w → layers.SlotRoom k → desks.Whole (deskOf y s w k)
+desk-fresh y s w k a b d = record { seated = a; wide = b; deep = d }
+
+pub all-fresh : (ring s w k s′ w′ k′ : List ℕ) (h : Held) (y : LayerState) (t : TimeSync) (d : DeskState) → queues.Whole ring 0 (h .state) → layers.Whole y s w k
+    → desks.Whole (deskOf d s′ w′ k′) → Running ring s w k s′ w′ k′ (record { held = h; layer = y; sync = t; desk = d; filled = 0 })
+all-fresh ring s w k s′ w′ k′ h y t d a b e = record { queue = a; layer = b; desk = e; room = omega arith }
+
+pub ruleset starting = (queue-fresh, layer-fresh, desk-fresh, all-fresh)
+
+-- ---- between two lines, every lent list has the length that it had
+
+pub record Fed (bytes₀ line₀ args₀ ring₀ s₀ w₀ k₀ s′₀ w′₀ k′₀ out₀ bytes line args ring s w k s′ w′ k′ out : List ℕ) (x : World) (len : ℕ) : Type 0 where
+  pub running : Running ring s w k s′ w′ k′ x
+  pub within : len ≤ length bytes₀
+  pub same-bytes : length bytes ≡ length bytes₀
+  pub same-lines : length line ≡ length line₀
+  pub same-fields : length args ≡ length args₀
+  pub same-rings : length ring ≡ length ring₀
+  pub same-seats : length s ≡ length s₀
+  pub same-words : length w ≡ length w₀
+  pub same-slots : length k ≡ length k₀
+  pub same-seats′ : length s′ ≡ length s′₀
+  pub same-words′ : length w′ ≡ length w′₀
+  pub same-slots′ : length k′ ≡ length k′₀
+  pub same-outs : length out ≡ length out₀

@@ -1,4 +1,2 @@
-pub mod Text
-pub mod Queue
-pub mod Line
+pub mod Lines
 pub mod Running

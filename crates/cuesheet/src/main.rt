@@ -1,185 +1,392 @@
 // cuesheet: reads a cue sheet on standard input, makes its calls on the library, and writes one
 // answer line for each.
-pub mod queue;
-pub mod text;
+mod kinds;
+mod reading;
 
-use libc::STDIN_FILENO;
+use cues_queue::Held;
+use desk::DeskState;
 use libc::STDOUT_FILENO;
-use queue::Held;
-use queue::Told;
+use reading::Reader;
+use sheet::calls::DESK;
+use sheet::calls::LAYER;
+use sheet::calls::PACK;
+use sheet::calls::PASSED;
+use sheet::calls::SYNC;
+use sync_layer::LayerState;
+use time_sync::TimeSync;
 ghost use mathlib.Core.Path.{_≡_};
-ghost use Prim.Native.Nat.{_+_, _≤_};
+ghost use Prim.Native.Nat.{suc, _+_, _*_, _≤_, _<_};
 ghost use lib.ListN.{length};
 ghost use lib.Seq.{sets};
-ghost use Rattle.cuesheet.specs.Line as lines;
-ghost use Rattle.input_queue.specs.Whole.{Whole};
+ghost use Rattle.input_queue.specs.Whole as queues;
+ghost use Rattle.sync_layer.specs.Whole as layers;
+ghost use Rattle.sync_layer.specs.Whole.{SeatRoom, WordRoom, SlotRoom};
+ghost use Rattle.sync_layer.specs.Seats.{maxSeats, seatWords};
+ghost use Rattle.sync_layer.specs.Slots.{maxLimit, slotWords};
+ghost use Rattle.input_queue.specs.Ring.{queueLength};
+ghost use Rattle.desk.specs.Whole as desks;
+ghost use Rattle.desk.specs.Desk.{deskOf};
+ghost use Rattle.cuesheet.specs.Lines as lines;
 ghost use Rattle.cuesheet.specs.Running.{Running};
 
-// The answer to one line, put into `out` from a place on, with its newline. A line that is passed
-// over gets none, and one that is bad changes nothing.
-fn answer(
-    line: &[u8],
-    args: &mut [u64],
-    words: &mut [u32],
-    held: Held,
-    out: &mut [u8],
-    at: usize,
-) -> Told
-    requires { ⌜ (2048 ≤ length (now args)) × (at + 64 ≤ length (now out)) × Whole (now words) 0 (held .state) ⌝ }
-    ensures { λ r. ⌜ (r .held ≡ lines.heldBy (now (line .entry)) (now (args .entry)) (now (words .entry)) held)
-        × (now (words .exit) ≡ lines.wordsBy (now (line .entry)) (now (args .entry)) (now (words .entry)) held)
-        × (r .at ≡ at + length (lines.textBy (now (line .entry)) (now (args .entry)) (now (words .entry)) held))
-        × (now (out .exit) ≡ sets (now (out .entry)) at (lines.textBy (now (line .entry)) (now (args .entry)) (now (words .entry)) held))
-        × (r .at ≤ at + 64) ⌝ }
-{
-    let read = sheet::read_line(line, args);
-    let call = read.call;
-    if call == sheet::calls::PASSED {
-        return Told { held, at };
-    }
-    if call == sheet::calls::BAD {
-        let end = put_bad(out, at);
-        return Told { held, at: end };
-    }
-    let told = queue::make(call, &args[..], words, held, out, at);
-    let next = told.held;
-    let end = digits::put_byte(out, told.at, b'\n');
-    Told {
-        held: next,
-        at: end,
-    }
-}
-
-fn put_bad(out: &mut [u8], at: usize) -> usize
-    requires { ⌜ at + 4 ≤ length (now out) ⌝ }
-    ensures { λ r. ⌜ (r ≡ at + 4) × (now (out .exit) ≡ sets (now (out .entry)) at lines.badText) ⌝ }
-{
-    digits::put_text(out, at, b"bad\n")
-}
-
-// The queue in force, how many bytes of the line are read, and how many of the output are filled.
-pub struct Run {
+// What is in force: a queue, a layer, the windows and a desk, each by itself; and how many bytes of
+// the output are filled. Their lists are lent beside it.
+pub struct World {
     pub held: Held,
-    pub used: usize,
+    pub layer: LayerState,
+    pub sync: TimeSync,
+    pub desk: DeskState,
     pub filled: usize,
 }
 
-// Writes the output out once there is little room left.
-fn flush(out: &[u8], filled: usize) -> usize
-    requires { ⌜ (filled ≤ 65536) × (65536 ≡ length (now out)) ⌝ }
-    ensures { λ r. ⌜ r + 64 ≤ 65536 ⌝ }
+fn with_queue(world: World, held: Held, filled: usize) -> World
+    ensures { λ r. ⌜ r ≡ lines.withQueue world held filled ⌝ }
 {
-    if filled <= 65000 {
-        return filled;
+    let layer = world.layer;
+    let sync = world.sync;
+    let desk = world.desk;
+    World {
+        held,
+        layer,
+        sync,
+        desk,
+        filled,
     }
-    io::write_all(STDOUT_FILENO, &out[..filled]);
-    0
 }
 
-// A line is at its end.
-fn end_line(line: &[u8], args: &mut [u64], words: &mut [u32], out: &mut [u8], run: Run) -> Run
-    requires { ⌜ Running (now words) run × (4097 ≡ length (now line)) × (2048 ≡ length (now args)) × (65536 ≡ length (now out)) ⌝ }
-    ensures { λ r. ⌜ Running (now (words .exit)) r ⌝ }
+fn with_layer(world: World, layer: LayerState, filled: usize) -> World
+    ensures { λ r. ⌜ r ≡ lines.withLayer world layer filled ⌝ }
 {
-    let used = run.used;
-    let held = run.held;
-    let told = answer(&line[..used], args, words, held, out, run.filled);
-    let next = told.held;
-    Run {
-        held: next,
-        used: 0,
-        filled: flush(&out[..], told.at),
+    let held = world.held;
+    let sync = world.sync;
+    let desk = world.desk;
+    World {
+        held,
+        layer,
+        sync,
+        desk,
+        filled,
     }
+}
+
+fn with_sync(world: World, sync: TimeSync, filled: usize) -> World
+    ensures { λ r. ⌜ r ≡ lines.withSync world sync filled ⌝ }
+{
+    let held = world.held;
+    let layer = world.layer;
+    let desk = world.desk;
+    World {
+        held,
+        layer,
+        sync,
+        desk,
+        filled,
+    }
+}
+
+fn with_desk(world: World, desk: DeskState, filled: usize) -> World
+    ensures { λ r. ⌜ r ≡ lines.withDesk world desk filled ⌝ }
+{
+    let held = world.held;
+    let layer = world.layer;
+    let sync = world.sync;
+    World {
+        held,
+        layer,
+        sync,
+        desk,
+        filled,
+    }
+}
+
+// A line that makes no call: nothing for one that is passed over, `bad` for any other.
+fn put_idle(call: u32, out: &mut [u8], at: usize) -> usize
+    requires { ⌜ at + 4 ≤ length (now out) ⌝ }
+    ensures { λ r. ⌜ (r ≡ at + length (lines.idleText call)) × (now (out .exit) ≡ sets (now (out .entry)) at (lines.idleText call)) × (r ≤ at + 4) ⌝ }
+{
+    if call == PASSED {
+        return at;
+    }
+    digits::put_text(out, at, b"bad\n")
+}
+
+fn with_filled(world: World, filled: usize) -> World
+    ensures { λ r. ⌜ r ≡ lines.withFilled world filled ⌝ }
+{
+    let held = world.held;
+    let layer = world.layer;
+    let sync = world.sync;
+    let desk = world.desk;
+    World {
+        held,
+        layer,
+        sync,
+        desk,
+        filled,
+    }
+}
+
+// A call of what has lists of its own: the queue, the layer or the desk.
+fn answer_held(
+    call: u32,
+    count: u32,
+    args: &[u64],
+    ring: &mut [u32],
+    layer_seats: &mut [u32],
+    layer_words: &mut [u32],
+    layer_slots: &mut [u32],
+    desk_seats: &mut [u32],
+    desk_words: &mut [u32],
+    desk_slots: &mut [u32],
+    world: World,
+    out: &mut [u8],
+) -> World
+    requires { ⌜ (2048 ≤ length (now args)) × (count < 2048) × Running (now ring) (now «layer_seats») (now «layer_words») (now «layer_slots») (now «desk_seats») (now «desk_words») (now «desk_slots») world × (65536 ≡ length (now out)) ⌝ }
+    ensures { λ r. ⌜ Running (now (ring .exit)) (now («layer_seats» .exit)) (now («layer_words» .exit)) (now («layer_slots» .exit)) (now («desk_seats» .exit)) (now («desk_words» .exit)) (now («desk_slots» .exit)) r ⌝ }
+{
+    let at = world.filled;
+    if call < LAYER {
+        let held = world.held;
+        let told = kinds::queue_line(call, args, ring, held, out, at);
+        let next = told.held;
+        return with_queue(world, next, told.at);
+    }
+    if call < SYNC {
+        let layer = world.layer;
+        let told = kinds::layer_line(
+            call,
+            count,
+            args,
+            layer_seats,
+            layer_words,
+            layer_slots,
+            layer,
+            out,
+            at,
+        );
+        let next = told.layer;
+        return with_layer(world, next, told.at);
+    }
+    let desk = world.desk;
+    let told = kinds::desk_line(
+        call,
+        count,
+        args,
+        desk_seats,
+        desk_words,
+        desk_slots,
+        desk,
+        out,
+        at,
+    );
+    let next = told.desk;
+    with_desk(world, next, told.at)
+}
+
+// A line that has been read: its answer goes to the output. One that makes no call changes nothing.
+fn answer_read(
+    call: u32,
+    count: u32,
+    line: &[u8],
+    args: &[u64],
+    ring: &mut [u32],
+    layer_seats: &mut [u32],
+    layer_words: &mut [u32],
+    layer_slots: &mut [u32],
+    desk_seats: &mut [u32],
+    desk_words: &mut [u32],
+    desk_slots: &mut [u32],
+    world: World,
+    out: &mut [u8],
+) -> World
+    requires { ⌜ (2048 ≤ length (now args)) × (count < 2048) × Running (now ring) (now «layer_seats») (now «layer_words») (now «layer_slots») (now «desk_seats») (now «desk_words») (now «desk_slots») world × (65536 ≡ length (now out)) ⌝ }
+    ensures { λ r. ⌜ Running (now (ring .exit)) (now («layer_seats» .exit)) (now («layer_words» .exit)) (now («layer_slots» .exit)) (now («desk_seats» .exit)) (now («desk_words» .exit)) (now («desk_slots» .exit)) r ⌝ }
+{
+    let at = world.filled;
+    if call >= PASSED {
+        let end = put_idle(call, out, at);
+        return with_filled(world, kinds::flush(&out[..], end));
+    }
+    if call >= DESK {
+        return answer_held(
+            call,
+            count,
+            args,
+            ring,
+            layer_seats,
+            layer_words,
+            layer_slots,
+            desk_seats,
+            desk_words,
+            desk_slots,
+            world,
+            out,
+        );
+    }
+    if call >= PACK {
+        let end = kinds::delta_line(call, line, count, args, out, at);
+        return with_filled(world, end);
+    }
+    if call >= SYNC {
+        let sync = world.sync;
+        let told = kinds::sync_line(call, args, sync, out, at);
+        let next = told.sync;
+        return with_sync(world, next, told.at);
+    }
+    answer_held(
+        call,
+        count,
+        args,
+        ring,
+        layer_seats,
+        layer_words,
+        layer_slots,
+        desk_seats,
+        desk_words,
+        desk_slots,
+        world,
+        out,
+    )
+}
+
+fn answer(
+    line: &[u8],
+    args: &mut [u64],
+    ring: &mut [u32],
+    layer_seats: &mut [u32],
+    layer_words: &mut [u32],
+    layer_slots: &mut [u32],
+    desk_seats: &mut [u32],
+    desk_words: &mut [u32],
+    desk_slots: &mut [u32],
+    world: World,
+    out: &mut [u8],
+) -> World
+    requires { ⌜ (2048 ≡ length (now args)) × Running (now ring) (now «layer_seats») (now «layer_words») (now «layer_slots») (now «desk_seats») (now «desk_words») (now «desk_slots») world × (65536 ≡ length (now out)) ⌝ }
+    ensures { λ r. ⌜ Running (now (ring .exit)) (now («layer_seats» .exit)) (now («layer_words» .exit)) (now («layer_slots» .exit)) (now («desk_seats» .exit)) (now («desk_words» .exit)) (now («desk_slots» .exit)) r ⌝ }
+{
+    let read = sheet::read_line(line, args);
+    answer_read(
+        read.call,
+        read.count,
+        line,
+        &args[..],
+        ring,
+        layer_seats,
+        layer_words,
+        layer_slots,
+        desk_seats,
+        desk_words,
+        desk_slots,
+        world,
+        out,
+    )
 }
 
 // A last line without a newline counts all the same.
-fn end_sheet(line: &[u8], args: &mut [u64], words: &mut [u32], out: &mut [u8], run: Run) -> Run
-    requires { ⌜ Running (now words) run × (4097 ≡ length (now line)) × (2048 ≡ length (now args)) × (65536 ≡ length (now out)) ⌝ }
-    ensures { λ r. ⌜ Running (now (words .exit)) r ⌝ }
-{
-    if run.used == 0 {
-        return run;
-    }
-    end_line(line, args, words, out, run)
-}
-
-// One byte more. A line is kept up to one byte past the longest that is read.
-fn take_byte(
-    byte: u8,
-    line: &mut [u8],
+fn end_sheet(
+    line: &[u8],
     args: &mut [u64],
-    words: &mut [u32],
+    ring: &mut [u32],
+    layer_seats: &mut [u32],
+    layer_words: &mut [u32],
+    layer_slots: &mut [u32],
+    desk_seats: &mut [u32],
+    desk_words: &mut [u32],
+    desk_slots: &mut [u32],
+    world: World,
     out: &mut [u8],
-    run: Run,
-) -> Run
-    requires { ⌜ Running (now words) run × (4097 ≡ length (now line)) × (2048 ≡ length (now args)) × (65536 ≡ length (now out)) ⌝ }
-    ensures { λ r. ⌜ Running (now (words .exit)) r ⌝ }
+) -> World
+    requires { ⌜ (2048 ≡ length (now args)) × Running (now ring) (now «layer_seats») (now «layer_words») (now «layer_slots») (now «desk_seats») (now «desk_words») (now «desk_slots») world × (65536 ≡ length (now out)) ⌝ }
+    ensures { λ r. ⌜ Running (now (ring .exit)) (now («layer_seats» .exit)) (now («layer_words» .exit)) (now («layer_slots» .exit)) (now («desk_seats» .exit)) (now («desk_words» .exit)) (now («desk_slots» .exit)) r ⌝ }
 {
-    if byte == b'\n' {
-        return end_line(&line[..], args, words, out, run);
+    if line.len() == 0 {
+        return world;
     }
-    let used = run.used;
-    if used == 4097 {
-        return run;
-    }
-    line[used] = byte;
-    let held = run.held;
-    Run {
-        held,
-        used: used + 1,
-        filled: run.filled,
-    }
+    answer(
+        line,
+        args,
+        ring,
+        layer_seats,
+        layer_words,
+        layer_slots,
+        desk_seats,
+        desk_words,
+        desk_slots,
+        world,
+        out,
+    )
 }
 
-fn take_bytes(
-    bytes: &[u8],
-    line: &mut [u8],
-    args: &mut [u64],
-    words: &mut [u32],
-    out: &mut [u8],
-    run: Run,
-) -> Run
-    requires { ⌜ Running (now words) run × (4097 ≡ length (now line)) × (2048 ≡ length (now args)) × (65536 ≡ length (now out)) ⌝ }
-    ensures { λ r. ⌜ Running (now (words .exit)) r ⌝ }
-{
-    let mut r = run;
-    let mut i = 0;
-    while i < bytes.len() {
-        r = take_byte(bytes[i], line, args, words, out, r);
-        i += 1;
-    }
-    r
-}
-
-// A proved loop has to end, and nothing says that a sheet does. So the loop counts its turns down,
-// from a number that no run uses up.
-fn take_all(
+// Every line of a sheet. The loop counts its turns down as that of a line does.
+fn answer_all(
     bytes: &mut [u8],
     line: &mut [u8],
     args: &mut [u64],
-    words: &mut [u32],
+    ring: &mut [u32],
+    layer_seats: &mut [u32],
+    layer_words: &mut [u32],
+    layer_slots: &mut [u32],
+    desk_seats: &mut [u32],
+    desk_words: &mut [u32],
+    desk_slots: &mut [u32],
+    world: World,
     out: &mut [u8],
-    run: Run,
-) -> Run
-    requires { ⌜ Running (now words) run × (4097 ≡ length (now line)) × (2048 ≡ length (now args)) × (65536 ≡ length (now out)) ⌝ }
-    ensures { λ r. ⌜ Running (now (words .exit)) r ⌝ }
+) -> World
+    requires { ⌜ (4097 ≡ length (now line)) × (2048 ≡ length (now args)) × Running (now ring) (now «layer_seats») (now «layer_words») (now «layer_slots») (now «desk_seats») (now «desk_words») (now «desk_slots») world × (65536 ≡ length (now out)) ⌝ }
+    ensures { λ r. ⌜ Running (now (ring .exit)) (now («layer_seats» .exit)) (now («layer_words» .exit)) (now («layer_slots» .exit)) (now («desk_seats» .exit)) (now («desk_words» .exit)) (now («desk_slots» .exit)) r ⌝ }
 {
-    let mut r = run;
+    let mut w = world;
+    let mut reader = Reader {
+        at: 0,
+        len: 0,
+        used: 0,
+        more: true,
+    };
     let mut turns = u64::MAX;
     while turns > 0 {
-        let got = libc::read(STDIN_FILENO, bytes);
-        let n = io::count(got, &bytes[..]);
-        if n == 0 {
-            return r;
+        reader = reading::next_line(bytes, line, reader);
+        let used = reader.used;
+        if !reader.more {
+            return end_sheet(
+                &line[..used],
+                args,
+                ring,
+                layer_seats,
+                layer_words,
+                layer_slots,
+                desk_seats,
+                desk_words,
+                desk_slots,
+                w,
+                out,
+            );
         }
-        r = take_bytes(&bytes[..n], line, args, words, out, r);
+        w = answer(
+            &line[..used],
+            args,
+            ring,
+            layer_seats,
+            layer_words,
+            layer_slots,
+            desk_seats,
+            desk_words,
+            desk_slots,
+            w,
+            out,
+        );
         turns -= 1;
     }
-    r
+    w
 }
 
-// Room for the longest line that is read and one byte, for its fields, and for the queue's ring. Each
-// says its length alone, which is all that lending it as a slice asks.
+const SEATS_LENGTH: usize = sync_layer::MAX_SEATS * sync_layer::SEAT_WORDS;
+
+const WORDS_LENGTH: usize = sync_layer::MAX_SEATS * input_queue::INPUT_QUEUE_LENGTH;
+
+const SLOTS_LENGTH: usize = (sync_layer::MAX_LIMIT as usize + 1) * sync_layer::SLOT_WORDS;
+
+// Room for the longest line that is read and one byte, for its fields, and for what is in force.
 fn line_buffer() -> [u8; 4097]
     ensures { λ r. ⌜ 4097 ≡ length r ⌝ }
 {
@@ -198,31 +405,115 @@ fn ring_buffer() -> [u32; 128]
     [0u32; 128]
 }
 
+fn seat_buffer() -> [u32; SEATS_LENGTH]
+    ensures { λ r. ⌜ maxSeats * seatWords ≡ length r ⌝ }
+{
+    [0u32; SEATS_LENGTH]
+}
+
+fn word_buffer() -> [u32; WORDS_LENGTH]
+    ensures { λ r. ⌜ maxSeats * queueLength ≡ length r ⌝ }
+{
+    [0u32; WORDS_LENGTH]
+}
+
+fn slot_buffer() -> [u32; SLOTS_LENGTH]
+    ensures { λ r. ⌜ suc maxLimit * slotWords ≡ length r ⌝ }
+{
+    [0u32; SLOTS_LENGTH]
+}
+
+// At the start each is fresh: one seat, with limit, delay and predictor 0.
+fn fresh_queue(ring: &[u32]) -> Held
+    requires { ⌜ 128 ≡ length (now ring) ⌝ }
+    ensures { λ r. ⌜ queues.Whole (now (ring .entry)) 0 (r .state) ⌝ }
+{
+    let opened = input_queue::new(0, 0);
+    let state = opened.state;
+    Held {
+        predictor: opened.predictor,
+        state,
+    }
+}
+
+fn fresh_layer(seats: &mut [u32], words: &[u32], slots: &mut [u32]) -> LayerState
+    requires { ⌜ SeatRoom (now seats) × WordRoom (now words) × SlotRoom (now slots) ⌝ }
+    ensures { λ r. ⌜ layers.Whole r (now (seats .exit)) (now (words .entry)) (now (slots .exit)) ⌝ }
+{
+    let delays = [0u32; 1];
+    let opened = sync_layer::new(seats, slots, 0, 0, &delays);
+    opened.layer
+}
+
+fn fresh_desk(seats: &mut [u32], words: &[u32], slots: &mut [u32]) -> DeskState
+    requires { ⌜ SeatRoom (now seats) × WordRoom (now words) × SlotRoom (now slots) ⌝ }
+    ensures { λ r. ⌜ desks.Whole (deskOf r (now (seats .exit)) (now (words .entry)) (now (slots .exit))) ⌝ }
+{
+    let delays = [0u32; 1];
+    let opened = desk::setup(seats, slots, 0, 0, &delays);
+    opened.desk
+}
+
+fn start(
+    ring: &[u32],
+    layer_seats: &mut [u32],
+    layer_words: &[u32],
+    layer_slots: &mut [u32],
+    desk_seats: &mut [u32],
+    desk_words: &[u32],
+    desk_slots: &mut [u32],
+) -> World
+    requires { ⌜ (128 ≡ length (now ring)) × SeatRoom (now «layer_seats») × WordRoom (now «layer_words») × SlotRoom (now «layer_slots»)
+        × SeatRoom (now «desk_seats») × WordRoom (now «desk_words») × SlotRoom (now «desk_slots») ⌝ }
+    ensures { λ r. ⌜ Running (now (ring .entry)) (now («layer_seats» .exit)) (now («layer_words» .entry)) (now («layer_slots» .exit)) (now («desk_seats» .exit)) (now («desk_words» .entry)) (now («desk_slots» .exit)) r ⌝ }
+{
+    let held = fresh_queue(ring);
+    let layer = fresh_layer(layer_seats, layer_words, layer_slots);
+    let desk = fresh_desk(desk_seats, desk_words, desk_slots);
+    World {
+        held,
+        layer,
+        sync: TimeSync::new(),
+        desk,
+        filled: 0,
+    }
+}
+
 fn main() {
     let mut bytes = io::large_buffer();
     let mut line = line_buffer();
     let mut args = field_buffer();
-    let mut words = ring_buffer();
+    let mut ring = ring_buffer();
+    let mut layer_seats = seat_buffer();
+    let mut layer_words = word_buffer();
+    let mut layer_slots = slot_buffer();
+    let mut desk_seats = seat_buffer();
+    let mut desk_words = word_buffer();
+    let mut desk_slots = slot_buffer();
     let mut out = io::large_buffer();
-    let opened = input_queue::new(0, 0);
-    let state = opened.state;
-    let start = Run {
-        held: Held {
-            predictor: opened.predictor,
-            state,
-        },
-        used: 0,
-        filled: 0,
-    };
-    let read = take_all(
+    let world = start(
+        &ring,
+        &mut layer_seats,
+        &layer_words,
+        &mut layer_slots,
+        &mut desk_seats,
+        &desk_words,
+        &mut desk_slots,
+    );
+    let last = answer_all(
         &mut bytes,
         &mut line,
         &mut args,
-        &mut words,
+        &mut ring,
+        &mut layer_seats,
+        &mut layer_words,
+        &mut layer_slots,
+        &mut desk_seats,
+        &mut desk_words,
+        &mut desk_slots,
+        world,
         &mut out,
-        start,
     );
-    let last = end_sheet(&line, &mut args, &mut words, &mut out, read);
     let filled = last.filled;
     io::write_all(STDOUT_FILENO, &out[..filled]);
 }

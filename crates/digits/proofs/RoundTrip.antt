@@ -14,7 +14,7 @@ use mir.Val.{SFits, toZ, ofZ}
 use mir.Facts.{toZ-ofZ}
 use borrow.Author.Tests.{lt-ltb, le-leb}
 use Rattle.digits.specs.declared.Number.the-variants.{Of, Not}
-use Rattle.digits.specs.Digits.{digitOf, allDigits, valueAfter, valueOf, numberOf, decimalOf, wordOf, patternOf, andThen, signedOf, digitByte, lastDigits, widthOf, decimalText, signedText, wordText}
+use Rattle.digits.specs.Digits.{digitOf, allDigits, valueAfter, valueOf, numberOf, decimalOf, wordOf, patternOf, andThen, signedOf, digitByte, lastDigits, widthOf, decimalText, signedText, wordText, pairText}
 use Rattle.frame_info.proofs.Split.{split-ltb, split-eqb}
 use Rattle.digits.proofs.Reading.{digit-low, digit-decimal, digit-lower, pattern-pos, number-none, number-some, number-other}
 use Rattle.digits.proofs.Writing.{byte-decimal, byte-letter, length-digits, width-one, width-more, width-some}
@@ -87,6 +87,10 @@ decimal-back n f = digits-back n f
 pub word-back : (w : ℕ) → w < 2 ^ 32 → wordOf (wordText w) ≡ Of w
 unfolding wordOf wordText
 word-back w f = simp (length-digits 16 8 w) (number-back 16 (omega arith) (omega arith) 8 w (omega arith) f f)
+
+pub pair-back : (b : ℕ) → b < 256 → numberOf 16 (pairText b) ≡ Of b
+unfolding pairText
+pair-back b f = number-back 16 (omega arith) (omega arith) 2 b (omega arith) (omega arith) (omega arith)
 
 never : {n : ℕ} → Not ≡ Of n → ⊥
 never p = let z : _≡_ {A = ℕ} 0 1 = cc in omega arith

@@ -17,7 +17,7 @@ use mir.Syntax.{w32, w64}
 use mir.Val.{Fits, SFits, toZ, ofZ}
 use mir.Facts.{toZ-ofZ, fits-natAbs}
 use borrow.Author.Tests.{lt-ltb, le-ltb, ltb-true}
-use Rattle.digits.specs.Digits.{digitByte, lastDigits, widthWithin, widthOf, decimalText, signedText, wordText}
+use Rattle.digits.specs.Digits.{digitByte, lastDigits, widthWithin, widthOf, decimalText, signedText, wordText, pairText}
 use Rattle.frame_info.proofs.Split.{split-ltb}
 
 -- the last of a run may be stored first
@@ -154,6 +154,10 @@ module _ (n w : ℕ) (e : w ≡ widthOf n) where
 pub word-put : (l r : List ℕ) (at n : ℕ) → r ≡ sets l at (lastDigits 16 8 n) → r ≡ sets l at (wordText n)
 unfolding wordText
 word-put l r at n q = q
+
+pub pair-put : (l r : List ℕ) (at n : ℕ) → r ≡ sets l at (lastDigits 16 2 n) → r ≡ sets l at (pairText n)
+unfolding pairText
+pair-put l r at n q = q
 
 -- a test on an i32, and what it says of its size and its text
 none-below : {A : Type 0} (n : ℕ) → ltb n 0 ≡ true → A

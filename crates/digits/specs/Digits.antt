@@ -99,3 +99,7 @@ signedText (negsuc n) = 45 ∷ decimalText (suc n)
 -- 8 lower-case hex digits
 unfoldable pub wordText : ℕ → List ℕ
 wordText w = lastDigits 16 8 w
+
+-- a byte as 2 lower-case hex digits
+unfoldable pub pairText : ℕ → List ℕ
+pairText b = lastDigits 16 2 b

@@ -6,7 +6,7 @@ ghost use lib.Seq.{sets};
 ghost use lib.IntN.{pos, negℤ, natAbs};
 ghost use mir.Syntax.{w32};
 ghost use mir.Val.{toZ};
-ghost use Rattle.digits.specs.Digits.{digitOf, numberOf, andThen, patternOf, decimalOf, wordOf, signedOf, digitByte, lastDigits, widthOf, decimalText, signedText, wordText};
+ghost use Rattle.digits.specs.Digits.{digitOf, numberOf, andThen, patternOf, decimalOf, wordOf, signedOf, digitByte, lastDigits, widthOf, decimalText, signedText, wordText, pairText};
 
 // What a field holds: a number of 32 bits, or anything else.
 pub enum Number {
@@ -210,6 +210,15 @@ pub fn put_word(out: &mut [u8], at: usize, w: u32) -> usize
 {
     put_digits(out, at, w, 16, 8);
     at + 8
+}
+
+// A byte as two digits.
+pub fn put_pair(out: &mut [u8], at: usize, b: u8) -> usize
+    requires { ⌜ at + 2 ≤ length (now out) ⌝ }
+    ensures { λ r. ⌜ (r ≡ at + 2) × (now (out .exit) ≡ sets (now (out .entry)) at (pairText b)) ⌝ }
+{
+    put_digits(out, at, b as u32, 16, 2);
+    at + 2
 }
 
 pub fn put_byte(out: &mut [u8], at: usize, b: u8) -> usize

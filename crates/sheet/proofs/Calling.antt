@@ -1,4 +1,4 @@
--- Laws of a call's fields, one at a time, and of a line by its cases. Assumes nothing.
+-- Laws of a call's row, of its fields, one at a time, and of a line by its cases. Assumes nothing.
 use Prim.Native.Nat.{ℕ, _+_, _-_, _<_, _≤_}
 use native.Mathlib.Omega.{arith}
 use native.Mathlib.Numerals.{add-one}
@@ -10,45 +10,17 @@ use lib.Seq.{sets, getD-take, getD-drop}
 use lib.Dec.{leb}
 use borrow.Author.Tests.{lt-ltb, le-ltb, le-leb, lt-leb, eq-eqb, ne-eqb}
 use Rattle.frame_info.specs.Choice.{pick}
-use Rattle.digits.specs.Digits.{decimalOf, signedOf, wordOf}
-use Rattle.digits.specs.declared.Number.{Number}
-use Rattle.digits.specs.declared.Number.the-variants.{Of, Not}
 use Rattle.sheet.specs.declared.Line.{Line}
 use Rattle.sheet.specs.declared.calls.Call.{Call}
 use Rattle.sheet.specs.declared.Value.{Value}
 use Rattle.sheet.specs.declared.Value.the-variants.{Is, Wrong}
 use Rattle.sheet.specs.Fields.{fieldsOf}
 use Rattle.sheet.specs.Steps.{runEnd, countOf}
-use Rattle.sheet.specs.Calls.{calls, rowCount, placeOf, noRow, kindAt, held, valueOf, BAD, PASSED}
+use Rattle.sheet.specs.Calls.{calls, rowCount, placeOf, noRow, kindAt, valueOf, BAD, PASSED}
 use Rattle.sheet.specs.Reading.{Reading, alone, before, fieldsFrom, called, fieldsRead, readingOf, argsAfter}
 use Rattle.sheet.proofs.Fielding.{end-within, end-after, skip-starts, fields-none, fields-after, field-next, field-some}
 
--- ---- a field, by its kind
-
-pub held-of : (n : Number) (v : ℕ) → n ≡ Of v → Is v ≡ held n
-unfolding held
-held-of n v e = rw e
-
-pub held-not : (n : Number) → n ≡ Not → Wrong ≡ held n
-unfolding held
-held-not n e = rw e
-
-module _ (kind : ℕ) (s : List ℕ) where
-  pub value-number : (n : Number) (r : Value) → kind ≡ 110 → n ≡ decimalOf s → r ≡ held n → r ≡ valueOf kind s
-  unfolding valueOf
-  value-number n r k e q = rw k (q ∙ ap held e)
-
-  pub value-frame : (n : Number) (r : Value) → kind ≡ 102 → n ≡ signedOf s → r ≡ held n → r ≡ valueOf kind s
-  unfolding valueOf
-  value-frame n r k e q = rw k (q ∙ ap held e)
-
-  pub value-word : (n : Number) (r : Value) → kind ≡ 119 → n ≡ wordOf s → r ≡ held n → r ≡ valueOf kind s
-  unfolding valueOf
-  value-word n r k e q = rw k (q ∙ ap held e)
-
-  pub value-none : (kind ≡ 110 → ⊥) → (kind ≡ 102 → ⊥) → (kind ≡ 119 → ⊥) → Wrong ≡ valueOf kind s
-  unfolding valueOf
-  value-none a b d = simp (ne-eqb kind 110 a, ne-eqb kind 102 b, ne-eqb kind 119 d)
+-- ---- the row of a call
 
 pub kind-early : (c : Call) (i : ℕ) → i < 4 → getD (c .kinds) i 0 ≡ kindAt c i
 unfolding kindAt
@@ -70,7 +42,7 @@ pub count-digit : (b : ℕ) → (b ≡ 42 → ⊥) → 48 ≤ b → b - 48 ≡ c
 unfolding countOf
 count-digit b n h = simp (ne-eqb b 42 n, le-ltb b 48 h)
 
-pub ruleset kinds = (count-star, count-none, count-digit, held-of, held-not, value-number, value-frame, value-word, value-none, kind-early, kind-late)
+pub ruleset kinds = (count-star, count-none, count-digit, kind-early, kind-late)
 
 -- ---- the fields of a call
 

@@ -123,11 +123,11 @@ pub call-row : (k least most : ℕ) → k < rowCount → least ≡ countOf (getD
 unfolding callAt
 call-row k least most h a b = rw (a, b) (by-table callAt (λ r. r .call) calls-are k h)
 
-and-left : (s t : Bool) → (s && t) ≡ true → s ≡ true
+pub and-left : (s t : Bool) → (s && t) ≡ true → s ≡ true
 and-left true t h = refl
 and-left false t h = h
 
-and-right : (s t : Bool) → (s && t) ≡ true → t ≡ true
+pub and-right : (s t : Bool) → (s && t) ≡ true → t ≡ true
 and-right true t h = h
 and-right false t h = absurd (true≢false (sym h))
 

@@ -1,16 +1,17 @@
 -- What a caller may know of the values that a line hands out, and that a name matches exactly. Assumes nothing.
-use Prim.Native.Nat.{ℕ, zero, suc, _+_, _^_, _<_, _≤_}
+use Prim.Native.Nat.{ℕ, zero, suc, _+_, _/_, _^_, _<_, _≤_}
 use native.Mathlib.Omega.{arith}
 use Prim.{absurd}
 use mathlib.Core.Path.{_≡_, refl, sym, _∙_}
 use mathlib.Core.Bool.{Bool, true, false, _&&_, true≢false}
-use mathlib.Core.Logic.{_≢_}
+use mathlib.Core.Logic.{⊎-elim}
 use mathlib.Core.List.{List, [], _∷_}
-use lib.ListN.{length, getD, set, length-set}
+use lib.ListN.{length, getD, set, take, drop, length-set}
 use lib.Seq.{sets, getD-set-same, getD-set-other}
 use lib.Dec.{eqb, ltb, leb}
 use borrow.Author.Tests.{eqb-true, eq-eqb}
 use Rattle.frame_info.specs.Choice.{pick}
+use Rattle.frame_info.proofs.Split.{split-ltb}
 use Rattle.digits.specs.Digits.{decimalOf, signedOf, wordOf}
 use Rattle.digits.specs.declared.Number.{Number}
 use Rattle.digits.specs.declared.Number.the-variants.{Of, Not}
@@ -18,8 +19,8 @@ use Rattle.digits.proofs.Bounds.{Small, decimal-small, signed-small, word-small
 use Rattle.sheet.specs.declared.calls.Call.{Call}
 use Rattle.sheet.specs.declared.Value.{Value}
 use Rattle.sheet.specs.declared.Value.the-variants.{Is, Wrong}
-use Rattle.sheet.specs.Fields.{fieldsOf}
-use Rattle.sheet.specs.Calls.{calls, rowCount, placeOf, noRow, sameText, kindAt, held, valueOf, BAD, PASSED, NUMBER, FRAME, WORD}
+use Rattle.sheet.specs.Fields.{longer, pieces, filled, fieldsOf}
+use Rattle.sheet.specs.Calls.{bytesOf, calls, rowCount, placeOf, noRow, sameText, kindAt, held, upTo, flagOf, statusOf, isHex, countedOf, valueOf, BAD, PASSED, ON, NUMBER, FRAME, WORD, ROOM, LENS, LEN, FLAG, STATUS, BYTES}
 use Rattle.sheet.specs.Reading.{Reading, alone, before, fieldsFrom, called, fieldsRead, readingOf, argsAfter}
 
 -- ---- a name matches where it is the same text, and nowhere else
@@ -40,70 +41,167 @@ same-equal (a ∷ s) (b ∷ t) h = both (eqb a b) (sameText s t) (eqb-true a b) 
     both true y p q k = let e = p refl in let f = q k in cc
     both false y p q k = absurd (true≢false (sym k))
 
--- ---- every value fits 32 bits
+-- ---- a value is at most 2 ^ 32, and below it where the field is no STATUS
 
-Fit : Value → Type 0
-Fit (Is v) = v < 2 ^ 32
-Fit Wrong = 0 < 1
+-- the fields are of so many bytes at most
+Short : ℕ → List (List ℕ) → Type 0
+Short n [] = 0 < 1
+Short n (f ∷ fs) = (length f ≤ n) × Short n fs
 
-wrong-fits : Fit Wrong
-unfolding Fit
-wrong-fits = omega arith
+shorter : (m n : ℕ) (fs : List (List ℕ)) → m ≤ n → Short m fs → Short n fs
+unfolding Short
+shorter m n [] h s = s
+shorter m n (f ∷ fs) h s = (omega (arith, s .0), shorter m n fs h (s .1))
 
-held-fits : (n : Number) → Small n → Fit (held n)
-unfolding held Fit
-held-fits (Of n) s = s
-held-fits Not s = omega arith
+longer-short : (n b : ℕ) (ps : List (List ℕ)) → Short n ps → Short (suc n) (longer b ps)
+unfolding Short longer
+longer-short n b [] s = (omega arith, s)
+longer-short n b (p ∷ ps) s = (omega (arith, s .0), shorter n (suc n) ps (omega arith) (s .1))
 
-picked : (t : Bool) (u v : Value) → Fit u → Fit v → Fit (pick t u v)
-picked true u v a b = a
-picked false u v a b = b
+pieces-short : (l : List ℕ) → Short (length l) (pieces l)
+unfolding Short pieces
+pieces-short [] = (omega arith, omega arith)
+pieces-short (b ∷ l) = by (eqb b 32) (shorter (length l) (suc (length l)) (pieces l) (omega arith) (pieces-short l)) (longer-short (length l) b (pieces l) (pieces-short l))
+  where
+    by : (t : Bool) → Short (suc (length l)) (pieces l) → Short (suc (length l)) (longer b (pieces l)) → Short (suc (length l)) (pick t ([] ∷ pieces l) (longer b (pieces l)))
+    by true p q = (omega arith, p)
+    by false p q = q
 
-value-fits : (kind : ℕ) (s : List ℕ) → Fit (valueOf kind s)
-unfolding valueOf
-value-fits kind s =
-    picked (eqb kind NUMBER) (held (decimalOf s)) (pick (eqb kind FRAME) (held (signedOf s)) (pick (eqb kind WORD) (held (wordOf s)) Wrong))
-    (held-fits (decimalOf s) (decimal-small s))
-    (picked (eqb kind FRAME) (held (signedOf s)) (pick (eqb kind WORD) (held (wordOf s)) Wrong)
-    (held-fits (signedOf s) (signed-small s))
-    (picked (eqb kind WORD) (held (wordOf s)) Wrong (held-fits (wordOf s) (word-small s)) wrong-fits))
+filled-short : (n : ℕ) (ps : List (List ℕ)) → Short n ps → Short n (filled ps)
+unfolding Short filled
+filled-short n [] s = s
+filled-short n ([] ∷ ps) s = filled-short n ps (s .1)
+filled-short n ((b ∷ p) ∷ ps) s = (s .0, filled-short n ps (s .1))
 
-none-fits : (k : ℕ) → getD {A = ℕ} [] k 0 < 2 ^ 32
-none-fits k = omega arith
+fields-short : (l : List ℕ) → Short (length l) (fieldsOf l)
+unfolding fieldsOf
+fields-short l = filled-short (length l) (pieces l) (pieces-short l)
 
-before-fits : (u : Value) (r : Reading) (k : ℕ) → Fit u → ((j : ℕ) → getD (r .values) j 0 < 2 ^ 32) → getD (before u r .values) k 0 < 2 ^ 32
-unfolding before Fit alone
-before-fits (Is v) r zero f g = f
-before-fits (Is v) r (suc k) f g = g k
-before-fits Wrong r k f g = none-fits k
+one-short : (n : ℕ) (fs : List (List ℕ)) (k : ℕ) → Short n fs → length (getD fs k []) ≤ n
+unfolding Short
+one-short n [] k s = omega arith
+one-short n (f ∷ fs) zero s = s .0
+one-short n (f ∷ fs) (suc k) s = one-short n fs k (s .1)
 
-module _ (k : ℕ) where
-  alone-fits : (call : ℕ) → getD (alone call .values) k 0 < 2 ^ 32
-  unfolding alone
-  alone-fits call = none-fits k
+-- a field is no longer than its line
+pub field-short : (l : List ℕ) (k : ℕ) → length (getD (fieldsOf l) k []) ≤ length l
+field-short l k = one-short (length l) (fieldsOf l) k (fields-short l)
 
-  either : (t : Bool) (q r : Reading) → getD (q .values) k 0 < 2 ^ 32 → getD (r .values) k 0 < 2 ^ 32 → getD (pick t q r .values) k 0 < 2 ^ 32
-  either true q r a b = a
-  either false q r a b = b
+-- the call that the first field names
+unfoldable pub named : List (List ℕ) → Call
+named [] = noRow .call
+named (f ∷ fs) = getD calls (placeOf f calls) noRow .call
 
-fields-fit : (c : Call) (i : ℕ) (fs : List (List ℕ)) (k : ℕ) → getD (fieldsFrom c i fs .values) k 0 < 2 ^ 32
-unfolding fieldsFrom
-fields-fit c i [] k = either k (leb (c .least) i) (record { line = record { call = c .number; count = i }; values = [] }) (alone BAD) (none-fits k) (alone-fits k BAD)
-fields-fit c i (f ∷ fs) k =
-    either k (ltb i (c .most)) (before (valueOf (kindAt c i) f) (fieldsFrom c (i + 1) fs)) (alone BAD)
-    (before-fits (valueOf (kindAt c i) f) (fieldsFrom c (i + 1) fs) k (value-fits (kindAt c i) f) (λ j. fields-fit c (i + 1) fs j))
-    (alone-fits k BAD)
+Below : ℕ → Value → Type 0
+Below n (Is v) = v < n
+Below n Wrong = 0 < 1
 
-read-fit : (fs : List (List ℕ)) (k : ℕ) → getD (fieldsRead fs .values) k 0 < 2 ^ 32
-unfolding fieldsRead called
-read-fit [] k = alone-fits k PASSED
-read-fit (f ∷ fs) k =
-    either k (eqb (getD f 0 0) 35) (alone PASSED) (called (placeOf f calls) fs) (alone-fits k PASSED)
-    (either k (ltb (placeOf f calls) rowCount) (fieldsFrom (getD calls (placeOf f calls) noRow .call) 0 fs) (alone BAD) (fields-fit (getD calls (placeOf f calls) noRow .call) 0 fs k) (alone-fits k BAD))
+module _ (n : ℕ) where
+  wrong-below : Below n Wrong
+  unfolding Below
+  wrong-below = omega arith
 
-pub values-fit : (line : List ℕ) (k : ℕ) → getD (readingOf line .values) k 0 < 2 ^ 32
-unfolding readingOf
-values-fit line k = either k (ltb 4096 (length line)) (alone BAD) (fieldsRead (fieldsOf line)) (alone-fits k BAD) (read-fit (fieldsOf line) k)
+  is-below : (v : ℕ) → v < n → Below n (Is v)
+  unfolding Below
+  is-below v h = h
+
+  picked : (t : Bool) (u v : Value) → Below n u → Below n v → Below n (pick t u v)
+  picked true u v a b = a
+  picked false u v a b = b
+
+  held-below : (m : Number) → 2 ^ 32 ≤ n → Small m → Below n (held m)
+  unfolding held Below
+  held-below (Of v) h s = omega arith
+  held-below Not h s = omega arith
+
+  up-below : (most : ℕ) (m : Number) → 2 ^ 32 ≤ n → Small m → Below n (upTo most m)
+  unfolding upTo Below
+  up-below most (Of v) h s = picked (leb v most) (Is v) Wrong (omega arith) (omega arith)
+  up-below most Not h s = omega arith
+
+  flag-below : (s : List ℕ) → 2 ^ 32 ≤ n → Below n (flagOf s)
+  unfolding flagOf
+  flag-below s h = picked (sameText s (bytesOf "0")) (Is 0) _ (is-below 0 (omega arith)) (picked (sameText s (bytesOf "1")) (Is 1) Wrong (is-below 1 (omega arith)) wrong-below)
+
+  counted-below : (s : List ℕ) → 2 ^ 32 ≤ n → length s ≤ 4096 → Below n (countedOf s)
+  unfolding countedOf
+  counted-below s h k =
+      picked (sameText s (bytesOf "-")) (Is 0) _ (is-below 0 (omega arith)) (picked (isHex s) (Is (length s / 2)) Wrong (is-below (length s / 2) (omega arith)) wrong-below)
+
+status-below : (s : List ℕ) → Below (2 ^ 32 + 1) (statusOf s)
+unfolding statusOf
+status-below s =
+    picked (2 ^ 32 + 1) (sameText s (bytesOf "on")) (Is ON) _ (is-below (2 ^ 32 + 1) ON (omega arith))
+    (picked (2 ^ 32 + 1) (sameText (take 5 s) (bytesOf "gone:")) (held (signedOf (drop 5 s))) Wrong (held-below (2 ^ 32 + 1) (signedOf (drop 5 s)) (omega arith) (signed-small (drop 5 s)))
+    (wrong-below (2 ^ 32 + 1)))
+
+module _ (n : ℕ) (h : 2 ^ 32 ≤ n) where
+  status-if : (t : Bool) (u v : Value) → (t ≡ true → Below n u) → Below n v → Below n (pick t u v)
+  status-if true u v a b = a refl
+  status-if false u v a b = b
+
+  value-below : (kind : ℕ) (s : List ℕ) → length s ≤ 4096 → (kind ≡ STATUS → Below n (statusOf s)) → Below n (valueOf kind s)
+  unfolding valueOf
+  value-below kind s k g =
+      picked n (eqb kind NUMBER) (held (decimalOf s)) _ (held-below n (decimalOf s) h (decimal-small s))
+      (picked n (eqb kind FRAME) (held (signedOf s)) _ (held-below n (signedOf s) h (signed-small s))
+      (picked n (eqb kind WORD) (held (wordOf s)) _ (held-below n (wordOf s) h (word-small s))
+      (picked n (eqb kind ROOM) (upTo 4096 (decimalOf s)) _ (up-below n 4096 (decimalOf s) h (decimal-small s))
+      (picked n (eqb kind LENS) (upTo 512 (decimalOf s)) _ (up-below n 512 (decimalOf s) h (decimal-small s))
+      (picked n (eqb kind LEN) (upTo 65535 (decimalOf s)) _ (up-below n 65535 (decimalOf s) h (decimal-small s))
+      (picked n (eqb kind FLAG) (flagOf s) _ (flag-below n s h)
+      (status-if (eqb kind STATUS) (statusOf s) _ (λ e. g (eqb-true kind STATUS e))
+      (picked n (eqb kind BYTES) (countedOf s) Wrong (counted-below n s h k) (wrong-below n)))))))))
+
+  none-below : (k : ℕ) → getD {A = ℕ} [] k 0 < n
+  none-below k = omega arith
+
+  before-below : (u : Value) (r : Reading) (k : ℕ) → Below n u → ((j : ℕ) → getD (r .values) j 0 < n) → getD (before u r .values) k 0 < n
+  unfolding before Below alone
+  before-below (Is v) r zero f g = f
+  before-below (Is v) r (suc k) f g = g k
+  before-below Wrong r k f g = none-below k
+
+  module _ (k : ℕ) where
+    alone-below : (call : ℕ) → getD (alone call .values) k 0 < n
+    unfolding alone
+    alone-below call = none-below k
+
+    either : (t : Bool) (q r : Reading) → getD (q .values) k 0 < n → getD (r .values) k 0 < n → getD (pick t q r .values) k 0 < n
+    either true q r a b = a
+    either false q r a b = b
+
+  fields-below : (c : Call) → ((i : ℕ) (s : List ℕ) → kindAt c i ≡ STATUS → Below n (statusOf s)) → (i : ℕ) (fs : List (List ℕ)) → Short 4096 fs → (k : ℕ)
+      → getD (fieldsFrom c i fs .values) k 0 < n
+  unfolding fieldsFrom Short
+  fields-below c g i [] s k = either k (leb (c .least) i) (record { line = record { call = c .number; count = i }; values = [] }) (alone BAD) (none-below k) (alone-below k BAD)
+  fields-below c g i (f ∷ fs) s k =
+      either k (ltb i (c .most)) (before (valueOf (kindAt c i) f) (fieldsFrom c (i + 1) fs)) (alone BAD)
+      (before-below (valueOf (kindAt c i) f) (fieldsFrom c (i + 1) fs) k (value-below (kindAt c i) f (s .0) (g i f)) (λ j. fields-below c g (i + 1) fs (s .1) j))
+      (alone-below k BAD)
+
+  read-below : (fs : List (List ℕ)) → Short 4096 fs → ((i : ℕ) (s : List ℕ) → kindAt (named fs) i ≡ STATUS → Below n (statusOf s)) → (k : ℕ) → getD (fieldsRead fs .values) k 0 < n
+  unfolding fieldsRead called Short named
+  read-below [] s g k = alone-below k PASSED
+  read-below (f ∷ fs) s g k =
+      either k (eqb (getD f 0 0) 35) (alone PASSED) (called (placeOf f calls) fs) (alone-below k PASSED)
+      (either k (ltb (placeOf f calls) rowCount) (fieldsFrom (named (f ∷ fs)) 0 fs) (alone BAD) (fields-below (named (f ∷ fs)) g 0 fs (s .1) k) (alone-below k BAD))
+
+  line-below : (line : List ℕ) → ((i : ℕ) (s : List ℕ) → kindAt (named (fieldsOf line)) i ≡ STATUS → Below n (statusOf s)) → (k : ℕ) → getD (readingOf line .values) k 0 < n
+  unfolding readingOf
+  line-below line g k =
+      ⊎-elim
+      (λ w. simp (w .1) (alone-below k BAD))
+      (λ w. simp (w .1) (read-below (fieldsOf line) (shorter (length line) 4096 (fieldsOf line) (w .0) (fields-short line)) g k))
+      (split-ltb 4096 (length line))
+
+-- no value is above that of a seat that is on
+pub values-fit : (line : List ℕ) (k : ℕ) → getD (readingOf line .values) k 0 ≤ 2 ^ 32
+values-fit line k = omega (arith, line-below (2 ^ 32 + 1) (omega arith) line (λ i s e. status-below s) k)
+
+-- where the call has no STATUS, every value fits 32 bits
+pub values-low : (line : List ℕ) → ((i : ℕ) → kindAt (named (fieldsOf line)) i ≡ STATUS → ⊥) → (k : ℕ) → getD (readingOf line .values) k 0 < 2 ^ 32
+values-low line g k = line-below (2 ^ 32) (omega arith) line (λ i s e. absurd (g i e)) k
 
 -- ---- where the values stand
 
@@ -158,12 +256,16 @@ line-few : (line : List ℕ) → readingOf line .line .count ≤ 0 + length (rea
 unfolding readingOf
 line-few line = few-either 0 (ltb 4096 (length line)) (alone BAD) (fieldsRead (fieldsOf line)) (few-alone 0 BAD) (read-few (fieldsOf line))
 
--- each number handed out for a field of the call is that field's value, and fits 32 bits
+-- each number handed out for a field of the call is that field's value
 pub arg-is : (line args : List ℕ) (k : ℕ) → k < readingOf line .line .count → k < length args → getD (argsAfter line args) k 0 ≡ getD (readingOf line .values) k 0
 unfolding argsAfter
 arg-is line args k h g =
     let e : 0 + k ≡ k = omega arith in
     rw e at (stored 0 (readingOf line .values) args 0 k (omega (arith, line-few line)) (omega arith))
 
-pub arg-fits : (line args : List ℕ) (k : ℕ) → k < readingOf line .line .count → k < length args → getD (argsAfter line args) k 0 < 2 ^ 32
+pub arg-fits : (line args : List ℕ) (k : ℕ) → k < readingOf line .line .count → k < length args → getD (argsAfter line args) k 0 ≤ 2 ^ 32
 arg-fits line args k h g = rw (arg-is line args k h g) (values-fit line k)
+
+pub arg-low : (line args : List ℕ) (k : ℕ) → ((i : ℕ) → kindAt (named (fieldsOf line)) i ≡ STATUS → ⊥) → k < readingOf line .line .count → k < length args
+    → getD (argsAfter line args) k 0 < 2 ^ 32
+arg-low line args k f h g = rw (arg-is line args k h g) (values-low line f k)

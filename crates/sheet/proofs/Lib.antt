@@ -1,5 +1,9 @@
 pub mod Finding
 pub mod Fielding
+pub mod Holding
+pub mod Decoding
 pub mod Calling
 pub mod Handed
+pub mod Matching
 pub mod Samples
+pub mod Counts

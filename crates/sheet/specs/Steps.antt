@@ -1,6 +1,6 @@
 -- What the steps of the reading do: how far a run of spaces, or of other bytes, reaches, and a number of fields in the table.
-use Prim.Native.Nat.{ℕ, suc, _+_, _-_}
-use mathlib.Core.Bool.{Bool, not}
+use Prim.Native.Nat.{ℕ, zero, suc, _+_, _-_}
+use mathlib.Core.Bool.{Bool, true, false, not}
 use mathlib.Core.List.{List, [], _∷_}
 use lib.ListN.{drop}
 use lib.Dec.{eqb, ltb}
@@ -17,6 +17,11 @@ runOf spaces (b ∷ s) = pick (endsRun b spaces) 0 (suc (runOf spaces s))
 
 unfoldable pub runEnd : Bool → List ℕ → ℕ → ℕ
 runEnd spaces line at = at + runOf spaces (drop at line)
+
+-- where a field begins: past the spaces after the field before it; the line's end where it is missing
+unfoldable pub fieldStart : List ℕ → ℕ → ℕ
+fieldStart line zero = runEnd true line 0
+fieldStart line (suc n) = runEnd true line (runEnd false line (fieldStart line n))
 
 -- a digit; a star is as many fields as a line can hold after a name
 unfoldable pub countOf : ℕ → ℕ

@@ -57,6 +57,11 @@ module _ (w : List ℤ) where
   mean-le : mean .count ≤ 2 ^ 28 * unit + 2 ^ 28 * grain
   mean-le = near-le _ (below (windowSum w)) (whole .count) (30 * unit) (2 ^ 28 * grain) (2 ^ 28) mean (omega (arith, unit-pos)) whole-le
 
+-- an average is finite, and less than 2^31 in size
+pub average-under : (w : List ℤ) → Under31 (average w)
+average-under w =
+    under-of-value (average w) (below (windowSum w)) (mean w .count) unit (mean w .value) (omega (arith, mean-le w, unit-grain, grain-pos))
+
 pub half-under : (s : TimeSync) → Under31 (half s)
 unfolding half
 half-under s =

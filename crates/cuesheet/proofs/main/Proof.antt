@@ -1,103 +1,158 @@
-use native.Mathlib.Omega.{arith}
 use lib.ListN.{length-take}
-use Rattle.cuesheet.proofs.Keeping.{fresh-running}
+use native.Mathlib.Omega.{arith}
 use borrow.Author.Needs.{needs}
 use Rattle.cuesheet.proofs.main.Statement.{statement}
 use Rattle.cuesheet.proofs.main.Tie as tie
 use Rattle.cuesheet.proofs.main.Reads as reads
 use Rattle.cuesheet.proofs.main.Lts as lts
-use Rattle.cuesheet.proofs.end_sheet.Reads as end-sheet-reads
+use Rattle.cuesheet.proofs.answer_all.Reads as answer-all-reads
 use Rattle.cuesheet.proofs.field_buffer.Reads as field-buffer-reads
 use Rattle.cuesheet.proofs.line_buffer.Reads as line-buffer-reads
 use Rattle.cuesheet.proofs.ring_buffer.Reads as ring-buffer-reads
-use Rattle.cuesheet.proofs.take_all.Reads as take-all-reads
-use Rattle.input_queue.proofs.new.Reads as new-reads
+use Rattle.cuesheet.proofs.seat_buffer.Reads as seat-buffer-reads
+use Rattle.cuesheet.proofs.slot_buffer.Reads as slot-buffer-reads
+use Rattle.cuesheet.proofs.start.Reads as start-reads
+use Rattle.cuesheet.proofs.word_buffer.Reads as word-buffer-reads
 use Rattle.io.proofs.large_buffer.Reads as large-buffer-reads
 use Rattle.io.proofs.write_all.Reads as write-all-reads
 
--- src/main.rt:171:21
+-- src/main.rt:480:21
 large-buffer-requires : tie.Need-large-buffer-requires
 large-buffer-requires c κs = search needs
 
--- src/main.rt:172:20
+-- src/main.rt:481:20
 line-buffer-requires : tie.Need-line-buffer-requires
 line-buffer-requires c κs = search needs
 
--- src/main.rt:173:20
+-- src/main.rt:482:20
 field-buffer-requires : tie.Need-field-buffer-requires
 field-buffer-requires c κs = search needs
 
--- src/main.rt:174:21
+-- src/main.rt:483:20
 ring-buffer-requires : tie.Need-ring-buffer-requires
 ring-buffer-requires c κs = search needs
 
--- src/main.rt:175:19
+-- src/main.rt:484:27
+seat-buffer-requires : tie.Need-seat-buffer-requires
+seat-buffer-requires c κs = search needs
+
+-- src/main.rt:485:27
+word-buffer-requires : tie.Need-word-buffer-requires
+word-buffer-requires c κs = search needs
+
+-- src/main.rt:486:27
+slot-buffer-requires : tie.Need-slot-buffer-requires
+slot-buffer-requires c κs = search needs
+
+-- src/main.rt:487:26
+seat-buffer-requires-2 : tie.Need-seat-buffer-requires-2
+seat-buffer-requires-2 c κs = search needs
+
+-- src/main.rt:488:26
+word-buffer-requires-2 : tie.Need-word-buffer-requires-2
+word-buffer-requires-2 c κs = search needs
+
+-- src/main.rt:489:26
+slot-buffer-requires-2 : tie.Need-slot-buffer-requires-2
+slot-buffer-requires-2 c κs = search needs
+
+-- src/main.rt:490:19
 large-buffer-requires-2 : tie.Need-large-buffer-requires-2
 large-buffer-requires-2 c κs = search needs
 
--- src/main.rt:176:9
-new-requires : tie.Need-new-requires
-new-requires c κs = search needs
+-- src/main.rt:492:9
+slice-aggregate-start : tie.Need-slice-aggregate-start
+slice-aggregate-start c = search needs
 
--- src/main.rt:186:25
-slice-aggregate-take-all : tie.Need-slice-aggregate-take-all
-slice-aggregate-take-all c = search needs
+-- src/main.rt:493:9
+slice-aggregate-start-2 : tie.Need-slice-aggregate-start-2
+slice-aggregate-start-2 c = search needs
 
--- src/main.rt:186:37
-slice-aggregate-take-all-2 : tie.Need-slice-aggregate-take-all-2
-slice-aggregate-take-all-2 c = search needs
+-- src/main.rt:494:9
+slice-aggregate-start-3 : tie.Need-slice-aggregate-start-3
+slice-aggregate-start-3 c = search needs
 
--- src/main.rt:186:48
-slice-aggregate-take-all-3 : tie.Need-slice-aggregate-take-all-3
-slice-aggregate-take-all-3 c = search needs
+-- src/main.rt:495:9
+slice-aggregate-start-4 : tie.Need-slice-aggregate-start-4
+slice-aggregate-start-4 c = search needs
 
--- src/main.rt:186:59
-slice-aggregate-take-all-4 : tie.Need-slice-aggregate-take-all-4
-slice-aggregate-take-all-4 c = search needs
+-- src/main.rt:496:9
+slice-aggregate-start-5 : tie.Need-slice-aggregate-start-5
+slice-aggregate-start-5 c = search needs
 
--- src/main.rt:186:71
-slice-aggregate-take-all-5 : tie.Need-slice-aggregate-take-all-5
-slice-aggregate-take-all-5 c = search needs
+-- src/main.rt:497:9
+slice-aggregate-start-6 : tie.Need-slice-aggregate-start-6
+slice-aggregate-start-6 c = search needs
 
--- src/main.rt:186:9
-take-all-requires : tie.Need-take-all-requires
-take-all-requires c κs =
-    let r = c .before .before .before .before .before .before .before .before .ring-buffer .ensures in
-    (fresh-running _ _ (c .before .before .before .before .before .before .new .ensures) (omega arith), c .before .before .before .before .before .before .before .before .before .before .line-buffer .ensures, c .before .before .before .before .before .before .before .before .before .field-buffer .ensures, c .before .before .before .before .before .before .before .large-buffer2 .ensures)
+-- src/main.rt:498:9
+slice-aggregate-start-7 : tie.Need-slice-aggregate-start-7
+slice-aggregate-start-7 c = search needs
 
--- src/main.rt:187:26
-slice-aggregate-end-sheet : tie.Need-slice-aggregate-end-sheet
-slice-aggregate-end-sheet c = search needs
+-- src/main.rt:491:9
+start-requires : tie.Need-start-requires
+start-requires c κs = search needs
 
--- src/main.rt:187:33
-slice-aggregate-end-sheet-2 : tie.Need-slice-aggregate-end-sheet-2
-slice-aggregate-end-sheet-2 c = search needs
+-- src/main.rt:501:9
+slice-aggregate-answer-all : tie.Need-slice-aggregate-answer-all
+slice-aggregate-answer-all c = search (needs, c .before .before .before .before .before .before .before .before .before .before .before .before .before .before .before .before .before .before .before .before .before .before .before .large-buffer .ensures)
 
--- src/main.rt:187:44
-slice-aggregate-end-sheet-3 : tie.Need-slice-aggregate-end-sheet-3
-slice-aggregate-end-sheet-3 c = search needs
+-- src/main.rt:502:9
+slice-aggregate-answer-all-2 : tie.Need-slice-aggregate-answer-all-2
+slice-aggregate-answer-all-2 c = search (needs, c .before .before .before .before .before .before .before .before .before .before .before .before .before .before .before .before .before .before .before .before .before .before .before .line-buffer .ensures)
 
--- src/main.rt:187:56
-slice-aggregate-end-sheet-4 : tie.Need-slice-aggregate-end-sheet-4
-slice-aggregate-end-sheet-4 c = search needs
+-- src/main.rt:503:9
+slice-aggregate-answer-all-3 : tie.Need-slice-aggregate-answer-all-3
+slice-aggregate-answer-all-3 c = search (needs, c .before .before .before .before .before .before .before .before .before .before .before .before .before .before .before .before .before .before .before .before .before .before .before .field-buffer .ensures)
 
--- src/main.rt:187:9
-end-sheet-requires : tie.Need-end-sheet-requires
-end-sheet-requires c κs = search needs
+-- src/main.rt:504:9
+slice-aggregate-answer-all-4 : tie.Need-slice-aggregate-answer-all-4
+slice-aggregate-answer-all-4 c = search (needs, c .before .before .before .before .before .before .before .before .before .before .before .before .before .before .before .before .before .before .before .before .before .before .before .ring-buffer .ensures)
 
--- src/main.rt:189:34
+-- src/main.rt:505:9
+slice-aggregate-answer-all-5 : tie.Need-slice-aggregate-answer-all-5
+slice-aggregate-answer-all-5 c = search needs
+
+-- src/main.rt:506:9
+slice-aggregate-answer-all-6 : tie.Need-slice-aggregate-answer-all-6
+slice-aggregate-answer-all-6 c = search (needs, c .before .before .before .before .before .before .before .before .before .before .before .before .before .before .before .before .before .before .before .before .before .before .before .word-buffer .ensures)
+
+-- src/main.rt:507:9
+slice-aggregate-answer-all-7 : tie.Need-slice-aggregate-answer-all-7
+slice-aggregate-answer-all-7 c = search needs
+
+-- src/main.rt:508:9
+slice-aggregate-answer-all-8 : tie.Need-slice-aggregate-answer-all-8
+slice-aggregate-answer-all-8 c = search needs
+
+-- src/main.rt:509:9
+slice-aggregate-answer-all-9 : tie.Need-slice-aggregate-answer-all-9
+slice-aggregate-answer-all-9 c = search (needs, c .before .before .before .before .before .before .before .before .before .before .before .before .before .before .before .before .before .before .before .before .before .before .before .word-buffer2 .ensures)
+
+-- src/main.rt:510:9
+slice-aggregate-answer-all-10 : tie.Need-slice-aggregate-answer-all-10
+slice-aggregate-answer-all-10 c = search needs
+
+-- src/main.rt:512:9
+slice-aggregate-answer-all-11 : tie.Need-slice-aggregate-answer-all-11
+slice-aggregate-answer-all-11 c = search needs
+
+-- src/main.rt:500:9
+answer-all-requires : tie.Need-answer-all-requires
+answer-all-requires c κs = (c .before .before .before .before .before .before .before .before .before .before .before .before .before .before .before .before .before .before .before .before .before .before .before .before .before .before .before .before .before .before .before .before .line-buffer .ensures, c .before .before .before .before .before .before .before .before .before .before .before .before .before .before .before .before .before .before .before .before .before .before .before .before .before .before .before .before .before .before .before .field-buffer .ensures, c .before .before .before .before .before .before .before .before .before .before .before .before .before .before .before .start .ensures, c .before .before .before .before .before .before .before .before .before .before .before .before .before .before .before .before .before .before .before .before .before .before .before .large-buffer2 .ensures)
+
+-- src/main.rt:515:34
 array-share-prefix-out : tie.Need-array-share-prefix-out
 array-share-prefix-out c = search needs
 
--- src/main.rt:189:34
+-- src/main.rt:515:34
 slice-aggregate-write-all : tie.Need-slice-aggregate-write-all
-slice-aggregate-write-all c = simp length-take (omega arith)
+slice-aggregate-write-all c = simp length-take (omega (arith, c .before .before .before .before .before .before .before .before .before .before .before .before .answer-all .ensures .room, c .before .before .before .before .before .before .before .before .before .before .before .before .before .before .before .before .before .before .before .before .before .before .before .before .before .before .before .before .before .before .before .before .before .before .before .before .large-buffer2 .ensures))
 
--- src/main.rt:189:5
+-- src/main.rt:515:5
 write-all-requires : tie.Need-write-all-requires
 write-all-requires c κs = search needs
 
--- src/main.rt:170:1
+-- src/main.rt:479:1
 returns : tie.Need-returns
 returns c = search needs
 
@@ -109,19 +164,33 @@ main-spec =
     line-buffer-requires
     field-buffer-requires
     ring-buffer-requires
+    seat-buffer-requires
+    word-buffer-requires
+    slot-buffer-requires
+    seat-buffer-requires-2
+    word-buffer-requires-2
+    slot-buffer-requires-2
     large-buffer-requires-2
-    new-requires
-    slice-aggregate-take-all
-    slice-aggregate-take-all-2
-    slice-aggregate-take-all-3
-    slice-aggregate-take-all-4
-    slice-aggregate-take-all-5
-    take-all-requires
-    slice-aggregate-end-sheet
-    slice-aggregate-end-sheet-2
-    slice-aggregate-end-sheet-3
-    slice-aggregate-end-sheet-4
-    end-sheet-requires
+    slice-aggregate-start
+    slice-aggregate-start-2
+    slice-aggregate-start-3
+    slice-aggregate-start-4
+    slice-aggregate-start-5
+    slice-aggregate-start-6
+    slice-aggregate-start-7
+    start-requires
+    slice-aggregate-answer-all
+    slice-aggregate-answer-all-2
+    slice-aggregate-answer-all-3
+    slice-aggregate-answer-all-4
+    slice-aggregate-answer-all-5
+    slice-aggregate-answer-all-6
+    slice-aggregate-answer-all-7
+    slice-aggregate-answer-all-8
+    slice-aggregate-answer-all-9
+    slice-aggregate-answer-all-10
+    slice-aggregate-answer-all-11
+    answer-all-requires
     array-share-prefix-out
     slice-aggregate-write-all
     write-all-requires

@@ -1,0 +1,18 @@
+use Rattle.cuesheet.proofs.Keeping.{starting}
+use borrow.Author.Needs.{needs}
+use Rattle.cuesheet.proofs.fresh_queue.Statement.{statement}
+use Rattle.cuesheet.proofs.fresh_queue.Tie as tie
+use Rattle.cuesheet.proofs.fresh_queue.Reads as reads
+use Rattle.cuesheet.proofs.fresh_queue.Lts as lts
+use Rattle.input_queue.proofs.new.Reads as new-reads
+
+-- src/main.rt:428:9
+new-requires : tie.Need-new-requires
+new-requires c κs = search needs
+
+-- src/main.rt:424:1
+returns : tie.Need-returns
+returns c = search (needs, starting)
+
+pub fresh-queue-spec : {M : Type 1} → statement M
+fresh-queue-spec = tie.close (tie.spec new-requires returns)
