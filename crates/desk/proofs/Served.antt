@@ -166,25 +166,32 @@ module _ (y e : DeskState) (l w m l′ m′ : List ℕ) (a : deskOf e l′ w m�
   next-predictor : e .predictor ≡ y .predictor
   next-predictor = ap (λ (d : Desk). d .state .predictor) a ∙ frame-predictor (deskOf y l w m)
 
+-- a replay of one frame is that frame
+replay-once : (n : ℕ) (p : ℕ → ℕ) (d : Desk) → n ≡ 1 → replay stepOf p n d ≡ oneFrame stepOf p d
+unfolding replay
+replay-once n p d e = rw e
+
 module _ (y e : DeskState) (l w m l′ m′ : List ℕ) (n : ℕ) (a : deskOf e l′ w m′ ≡ calls.frameOn (deskOf y l w m)) (b : y .current < n) where
   next : e .current ≡ y .current + 1
   next = next-current y e l w m l′ m′ a
 
-  pub replay-whole-next : Whole (deskOf y l w m) → n < lastCount → Whole (deskOf e l′ w m′)
-  replay-whole-next h c = subst (λ (d : Desk). Whole d) (sym a) (frame-whole stepOf (predicted (y .predictor)) (deskOf y l w m) h (omega arith))
+  pub play-whole : Whole (deskOf y l w m) → e .current < n → n ≤ lastCount → Whole (deskOf e l′ w m′)
+  play-whole h c k = subst (λ (d : Desk). Whole d) (sym a) (frame-whole stepOf (predicted (y .predictor)) (deskOf y l w m) h (omega (arith, next)))
 
-  pub replay-upto : e .current ≤ n
-  replay-upto = omega (arith, next)
+  pub play-last : n ≤ e .current → deskOf e l′ w m′ ≡ replay stepOf (predicted (y .predictor)) (n - y .current) (deskOf y l w m)
+  play-last c = a ∙ sym (replay-once (n - y .current) (predicted (y .predictor)) (deskOf y l w m) (omega (arith, next)))
 
-  pub replay-rest : (r : DeskState) (l″ m″ : List ℕ) → deskOf r l″ w m″ ≡ replay stepOf (predicted (e .predictor)) (n - e .current) (deskOf e l′ w m′)
+  pub play-rest : (r : DeskState) (l″ m″ : List ℕ) → deskOf r l″ w m″ ≡ replay stepOf (predicted (e .predictor)) (n - e .current) (deskOf e l′ w m′)
       → deskOf r l″ w m″ ≡ replay stepOf (predicted (y .predictor)) (n - y .current) (deskOf y l w m)
-  replay-rest r l″ m″ c =
+  play-rest r l″ m″ c =
       let k : n - y .current ≡ suc (n - e .current) = omega (arith, next) in
       c
       ∙ ap₂ (λ (p : ℕ) (d : Desk). replay stepOf (predicted p) (n - e .current) d) (next-predictor y e l w m l′ m′ a) a
       ∙ sym (replay-first (n - y .current) (n - e .current) (predicted (y .predictor)) (deskOf y l w m) k)
 
-pub ruleset replays = (replay-none, replay-whole-next, replay-upto, replay-rest)
+pub ruleset plays = (play-whole, play-last, play-rest)
+
+pub ruleset replays = (replay-none)
 
 -- Going back --------------------------------------------------------------------------------------------------------------------
 
@@ -301,10 +308,14 @@ module _ (s : DeskState) (l₁ w m₁ : List ℕ) (h : Whole (deskOf s l₁ w m�
   pub serve-standings : (o o′ : List ℕ) → o′ ≡ writeRow (s .seats) o 0 (calls.standing (deskOf s l₁ [] [])) → o′ ≡ writeRow (s .seats) o 0 (calls.standing (deskOf s l₁ w m₁))
   serve-standings o o′ a = a
 
-  module _ (t : DeskState) (l₂ m₂ : List ℕ) (f : deskOf t l₂ w m₂ ≡ calls.frameOn (deskOf s l₁ w m₁)) where
+  module _ (t : DeskState) (l₂ m₂ : List ℕ)
+      (f : deskOf t l₂ w m₂ ≡ replay stepOf (predicted (s .predictor)) (s .current + 1 - s .current) (deskOf s l₁ w m₁)) where
+    pub serve-desk : deskOf t l₂ w m₂ ≡ calls.frameOn (deskOf s l₁ w m₁)
+    serve-desk = f ∙ replay-once (s .current + 1 - s .current) (predicted (s .predictor)) (deskOf s l₁ w m₁) (omega arith)
+
     served-slots : m₂ ≡ writeRow (s .seats) (saveSlot (s .limit) m₁ (s .current) (s .console)) (slotOf (s .limit) (s .current) + 4) (answerSeat s l₁ w)
     unfolding oneFrame
-    served-slots = ap (λ (d : Desk). d .slots) f
+    served-slots = ap (λ (d : Desk). d .slots) serve-desk
 
     served-long : length m₂ ≡ length m₁
     served-long =
@@ -328,7 +339,7 @@ module _ (s : DeskState) (l₁ w m₁ : List ℕ) (h : Whole (deskOf s l₁ w m�
     pub serve-words : (o o′ : List ℕ) → o′ ≡ writeRow (s .seats) o 0 (shownWord (deskOf s [] [] m₂) (s .current)) → o′ ≡ writeRow (s .seats) o 0 (calls.servedWord (deskOf s l₁ w m₁))
     serve-words o o′ a = a ∙ write-eq (s .seats) o 0 (shownWord (deskOf s [] [] m₂) (s .current)) (calls.servedWord (deskOf s l₁ w m₁)) served-word
 
-pub ruleset serves = (serve-standings, serve-deep, serve-words)
+pub ruleset serves = (serve-standings, serve-desk, serve-deep, serve-words)
 
 -- Advance -----------------------------------------------------------------------------------------------------------------------
 

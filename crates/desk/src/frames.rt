@@ -68,7 +68,20 @@ fn one_frame(seats: &mut [u32], words: &[u32], slots: &mut [u32], desk: DeskStat
     }
 }
 
-// To the end: one frame and then the rest of the replay.
+// At least one frame, to the end: one frame and then the rest. Every frame is played from here, so
+// that the frame's code has one caller and is compiled into it.
+fn play(seats: &mut [u32], words: &[u32], slots: &mut [u32], desk: DeskState, end: u32) -> DeskState
+    requires { ⌜ Whole (m.deskOf desk (now seats) (now words) (now slots)) × (desk .current < end) × (end ≤ lastCount) ⌝ }
+    ensures { λ r. ⌜ m.deskOf r (now (seats .exit)) (now (words .entry)) (now (slots .exit)) ≡ m.replay stepOf (predicted (desk .predictor)) (end - desk .current) (m.deskOf desk (now (seats .entry)) (now (words .entry)) (now (slots .entry))) ⌝ }
+{
+    let next = one_frame(seats, words, slots, desk);
+    if next.current >= end {
+        return next;
+    }
+    play(seats, words, slots, next, end)
+}
+
+// To the end: no frame where the desk is there, else one frame and then the rest of the replay.
 fn replay(
     seats: &mut [u32],
     words: &[u32],
@@ -82,8 +95,7 @@ fn replay(
     if desk.current >= end {
         return desk;
     }
-    let next = one_frame(seats, words, slots, desk);
-    replay(seats, words, slots, next, end)
+    play(seats, words, slots, desk, end)
 }
 
 // The desk at a saved frame.
@@ -183,7 +195,7 @@ pub fn serve_frame(
         × (now (standings .exit) ≡ writeRow (desk .seats) (now (standings .entry)) 0 (calls.standing (m.deskOf desk (now (seats .entry)) (now (words .entry)) (now (slots .entry))))) ⌝ }
 {
     put_standings(&seats[..], desk, standings);
-    let next = one_frame(seats, words, slots, desk);
+    let next = play(seats, words, slots, desk, desk.current + 1);
     put_words(&slots[..], desk, desk.current, served);
     next
 }

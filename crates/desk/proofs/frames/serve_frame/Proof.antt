@@ -4,39 +4,44 @@ use Rattle.desk.proofs.frames.serve_frame.Statement.{statement}
 use Rattle.desk.proofs.frames.serve_frame.Tie as tie
 use Rattle.desk.proofs.frames.serve_frame.Reads as reads
 use Rattle.desk.proofs.frames.serve_frame.Lts as lts
-use Rattle.desk.proofs.frames.one_frame.Reads as one-frame-reads
+use Rattle.desk.proofs.frames.play.Reads as play-reads
 use Rattle.desk.proofs.frames.put_standings.Reads as put-standings-reads
 use Rattle.desk.proofs.showing.put_words.Reads as put-words-reads
 
--- src/frames.rt:167:5
+-- src/frames.rt:197:5
 put-standings-requires : tie.Need-put-standings-requires
 put-standings-requires c κs = search needs
 
--- src/frames.rt:168:9
-one-frame-requires : tie.Need-one-frame-requires
-one-frame-requires c κs = search needs
+-- src/frames.rt:198:16
+add-play : tie.Need-add-play
+add-play c = search needs
 
--- src/frames.rt:169:5
+-- src/frames.rt:198:9
+play-requires : tie.Need-play-requires
+play-requires c κs = search needs
+
+-- src/frames.rt:199:5
 put-words-requires : tie.Need-put-words-requires
-put-words-requires c κs = search needs
+put-words-requires c κs =
+    (c .before .before .before .before .before .before .before .before .before .before .before .before .before .before .before .before .before .before .before .before .pre .0 .seated .ready, search (needs, serves), search needs)
 
--- src/frames.rt:161:1
+-- src/frames.rt:184:1
 same-length : tie.Need-same-length
 same-length c = search needs
 
--- src/frames.rt:161:1
+-- src/frames.rt:184:1
 same-length-2 : tie.Need-same-length-2
 same-length-2 c = search needs
 
--- src/frames.rt:161:1
+-- src/frames.rt:184:1
 same-length-3 : tie.Need-same-length-3
 same-length-3 c = search needs
 
--- src/frames.rt:161:1
+-- src/frames.rt:184:1
 same-length-4 : tie.Need-same-length-4
 same-length-4 c = search needs
 
--- src/frames.rt:161:1
+-- src/frames.rt:184:1
 returns : tie.Need-returns
 returns c = search (needs, serves)
 
@@ -45,7 +50,8 @@ serve-frame-spec =
     tie.close
     (tie.spec
     put-standings-requires
-    one-frame-requires
+    add-play
+    play-requires
     put-words-requires
     same-length
     same-length-2
