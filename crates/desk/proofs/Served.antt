@@ -33,7 +33,7 @@ use Rattle.desk.specs.Settled.{shownWord}
 use Rattle.desk.specs.Calls as calls
 use Rattle.desk.specs.Whole.{Seated, Whole}
 use Rattle.desk.proofs.Loops.{row-eq, write-eq, part-row}
-use Rattle.desk.proofs.Kept.{save-long, mismatch-past, back-whole, confirm-state, frame-whole, frame-current, corrected-whole, settle-whole}
+use Rattle.desk.proofs.Kept.{save-long, mismatch-past, back-whole, confirm-state, frame-whole, frame-current, corrected-whole, corrected-current, settle-whole}
 
 -- Every seat asked so far -------------------------------------------------------------------------------------------------------
 
@@ -264,12 +264,17 @@ module _ (y : DeskState) (l : List ℕ) (k : ℕ) (e : k ≡ leastOf (y .seats -
 
 pub ruleset confirming = (confirm-unknown, confirm-first, confirm-some, confirm-early)
 
--- a confirm looks at no words and no slots
-confirm-lists : (y : DeskState) (l l′ w m : List ℕ) → deskOf y l′ [] [] ≡ confirm (deskOf y l [] []) → deskOf y l′ w m ≡ confirm (deskOf y l w m)
+-- the desk's own numbers with another console
+abbrev withConsole : DeskState → Console → DeskState
+withConsole y k = record { seats = y .seats; limit = y .limit; predictor = y .predictor; current = y .current; console = k }
+
+-- a confirm looks at no console, no words and no slots
+confirm-lists : (y : DeskState) (k : Console) (l l′ w m : List ℕ) → deskOf y l′ [] [] ≡ confirm (deskOf y l [] [])
+    → deskOf (withConsole y k) l′ w m ≡ confirm (deskOf (withConsole y k) l w m)
 unfolding confirm discardAll
-confirm-lists y l l′ w m e = ap (λ (d : Desk). deskOf y (d .seats) w m) e ∙ put
+confirm-lists y k l l′ w m e = ap (λ (d : Desk). deskOf (withConsole y k) (d .seats) w m) e ∙ put
   where
-    put : deskOf y (confirm (deskOf y l [] []) .seats) w m ≡ confirm (deskOf y l w m)
+    put : deskOf (withConsole y k) (confirm (deskOf y l [] []) .seats) w m ≡ confirm (deskOf (withConsole y k) l w m)
     put =
         ⊎-elim
         (λ a. simp (a .1))
@@ -278,20 +283,63 @@ confirm-lists y l l′ w m e = ap (λ (d : Desk). deskOf y (d .seats) w m) e ∙
 
 -- Settle ------------------------------------------------------------------------------------------------------------------------
 
+-- a settle leaves the seats and the predictor as they are
+record Alike (y z : DeskState) : Type 0 where
+  seats : z .seats ≡ y .seats
+  limit : z .limit ≡ y .limit
+  predictor : z .predictor ≡ y .predictor
+
+module _ (step : Console → List ℕ → Console) (p : ℕ → ℕ) where
+  replay-alike : (n : ℕ) (d : Desk) → Alike (d .state) (replay step p n d .state)
+  unfolding replay oneFrame
+  replay-alike zero d = record { seats = refl; limit = refl; predictor = refl }
+  replay-alike (suc n) d =
+      let a = replay-alike n (oneFrame step p d) in
+      record { seats = a .seats; limit = a .limit; predictor = a .predictor }
+
+  corrected-alike : (d : Desk) → Alike (d .state) (corrected step p d .state)
+  unfolding corrected resetAll load
+  corrected-alike d =
+      ⊎-elim
+      (λ a. simp (a .1) (record { seats = refl; limit = refl; predictor = refl }))
+      (λ a. simp (a .1)
+      (let b = replay-alike (d .state .current - (mismatchOf d - 1)) (resetAll (load d (mismatchOf d - 1))) in
+      record { seats = b .seats; limit = b .limit; predictor = b .predictor }))
+      (split-eqb (mismatchOf d) 0)
+
+  settle-alike : (d : Desk) → Alike (d .state) (settle step p d .state)
+  unfolding settle
+  settle-alike d = rw (confirm-state (corrected step p d)) (corrected-alike d)
+
+same-numbers : (a b c f : ℕ) (s : DeskState) → s .seats ≡ a → s .limit ≡ b → s .predictor ≡ c → s .current ≡ f
+    → s ≡ record { seats = a; limit = b; predictor = c; current = f; console = s .console }
+same-numbers a b c f s e g h i = rw (← e, ← g, ← h, ← i)
+
 module _ (y : DeskState) (l w m : List ℕ) (h : Whole (deskOf y l w m)) where
   pub settle-low : (n : ℕ) → n ≡ lowestOf (y .seats) (λ s. seatAt l s .wrong) → n ≤ y .current
   settle-low n e = omega (arith, e, mismatch-past y l (h .seated))
 
   module _ (s : DeskState) (l₁ m₁ : List ℕ) (e : deskOf s l₁ w m₁ ≡ corrected stepOf (predicted (y .predictor)) (deskOf y l w m)) where
-    corrected-seated : (d : Desk) → deskOf s l₁ w m₁ ≡ d → Whole d → Seated s l₁
-    corrected-seated d a k = subst (λ (x : Desk). Whole x) (sym a) k .seated
+    -- what is corrected ends at the current frame: the console alone is another
+    settle-console : s ≡ withConsole y (s .console)
+    settle-console =
+        let a = corrected-alike stepOf (predicted (y .predictor)) (deskOf y l w m) in
+        let c = corrected-current stepOf (predicted (y .predictor)) (deskOf y l w m) h in
+        let n : (g : DeskState → ℕ) → g s ≡ g (corrected stepOf (predicted (y .predictor)) (deskOf y l w m) .state) = λ g. ap (λ (d : Desk). g (d .state)) e in
+        same-numbers (y .seats) (y .limit) (y .predictor) (y .current) s
+        (n (λ z. z .seats) ∙ a .seats) (n (λ z. z .limit) ∙ a .limit) (n (λ z. z .predictor) ∙ a .predictor) (n (λ z. z .current) ∙ c)
 
-    pub settle-seated : Seated s l₁
-    settle-seated = corrected-seated (corrected stepOf (predicted (y .predictor)) (deskOf y l w m)) e (corrected-whole stepOf (predicted (y .predictor)) (deskOf y l w m) h)
+    settle-given : deskOf (withConsole y (s .console)) l₁ w m₁ ≡ corrected stepOf (predicted (y .predictor)) (deskOf y l w m)
+    settle-given = ap (λ (x : DeskState). deskOf x l₁ w m₁) (sym settle-console) ∙ e
 
-    pub settle-desk : (l₂ : List ℕ) → deskOf s l₂ [] [] ≡ confirm (deskOf s l₁ [] []) → deskOf s l₂ w m₁ ≡ calls.settleOf (deskOf y l w m)
+    pub settle-seated : Seated y l₁
+    settle-seated =
+        let k = subst (λ (d : Desk). Whole d) (sym settle-given) (corrected-whole stepOf (predicted (y .predictor)) (deskOf y l w m) h) .seated in
+        record { ready = h .seated .ready; room = k .room; seat = k .seat }
+
+    pub settle-desk : (l₂ : List ℕ) → deskOf y l₂ [] [] ≡ confirm (deskOf y l₁ [] []) → deskOf (withConsole y (s .console)) l₂ w m₁ ≡ calls.settleOf (deskOf y l w m)
     unfolding settle
-    settle-desk l₂ a = confirm-lists s l₁ l₂ w m₁ a ∙ ap confirm e
+    settle-desk l₂ a = confirm-lists y (s .console) l₁ l₂ w m₁ a ∙ ap confirm settle-given
 
 pub settle-report : (y : DeskState) (l w m : List ℕ) (n : ℕ) (r : Report) → n ≡ lowestOf (y .seats) (λ s. seatAt l s .wrong) → r ≡ calls.reportAt n (y .current) → r ≡ calls.reportOf (deskOf y l w m)
 settle-report y l w m n r e a = rw e at a
@@ -342,34 +390,6 @@ module _ (s : DeskState) (l₁ w m₁ : List ℕ) (h : Whole (deskOf s l₁ w m�
 pub ruleset serves = (serve-standings, serve-desk, serve-deep, serve-words)
 
 -- Advance -----------------------------------------------------------------------------------------------------------------------
-
--- a settle leaves the seats and the predictor as they are
-record Alike (y z : DeskState) : Type 0 where
-  seats : z .seats ≡ y .seats
-  limit : z .limit ≡ y .limit
-  predictor : z .predictor ≡ y .predictor
-
-module _ (step : Console → List ℕ → Console) (p : ℕ → ℕ) where
-  replay-alike : (n : ℕ) (d : Desk) → Alike (d .state) (replay step p n d .state)
-  unfolding replay oneFrame
-  replay-alike zero d = record { seats = refl; limit = refl; predictor = refl }
-  replay-alike (suc n) d =
-      let a = replay-alike n (oneFrame step p d) in
-      record { seats = a .seats; limit = a .limit; predictor = a .predictor }
-
-  corrected-alike : (d : Desk) → Alike (d .state) (corrected step p d .state)
-  unfolding corrected resetAll load
-  corrected-alike d =
-      ⊎-elim
-      (λ a. simp (a .1) (record { seats = refl; limit = refl; predictor = refl }))
-      (λ a. simp (a .1)
-      (let b = replay-alike (d .state .current - (mismatchOf d - 1)) (resetAll (load d (mismatchOf d - 1))) in
-      record { seats = b .seats; limit = b .limit; predictor = b .predictor }))
-      (split-eqb (mismatchOf d) 0)
-
-  settle-alike : (d : Desk) → Alike (d .state) (settle step p d .state)
-  unfolding settle
-  settle-alike d = rw (confirm-state (corrected step p d)) (corrected-alike d)
 
 module _ (y : DeskState) (l w m : List ℕ) (n : ℕ) (g : n ≡ advanceAnswer (deskOf y l [] [])) where
   pub advance-number : n ≡ advanceAnswer (deskOf y l w m)

@@ -179,11 +179,20 @@ pub fn settle(seats: &mut [u32], words: &[u32], slots: &mut [u32], desk: DeskSta
 {
     let lowest = lowest_wrong(&seats[..], desk.seats as usize);
     let report = report_at(lowest, desk.current);
-    let settled = frames::correct(seats, words, slots, desk, lowest);
-    frames::confirm(seats, settled);
+    // A replay ends at the current frame, so that the console is all of the desk that is corrected.
+    // The other numbers are the ones that were given: they need not be read back.
+    let corrected = frames::correct(seats, words, slots, desk, lowest);
+    let console = corrected.console;
+    frames::confirm(seats, desk);
     Settled {
         report,
-        desk: settled,
+        desk: DeskState {
+            seats: desk.seats,
+            limit: desk.limit,
+            predictor: desk.predictor,
+            current: desk.current,
+            console,
+        },
     }
 }
 

@@ -40,7 +40,7 @@ same-length-2 c = search needs
 -- src/lib.rt:163:1
 returns : tie.Need-returns
 returns c =
-    (search (needs, settle-report), settle-desk _ _ _ _ (c .before .before .before .before .before .before .before .before .before .before .before .before .before .before .before .before .before .before .pre) _ _ _ (c .before .before .before .before .before .before .before .before .correct .ensures) _ (c .before .before .confirm .ensures))
+    (search (needs, settle-report), settle-desk _ _ _ _ (c .before .before .before .before .before .before .before .before .before .before .before .before .before .before .before .before .before .before .before .pre) _ _ _ (c .before .before .before .before .before .before .before .before .before .correct .ensures) _ (c .before .before .confirm .ensures))
 
 pub settle-spec : {M : Type 1} → statement M
 settle-spec =
