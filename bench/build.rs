@@ -1,4 +1,4 @@
-//! Finds the original files, as the oracle does, and the object file of the proved desk, which DESK_OBJECT names.
+//! Finds the original files, as the oracle does, and the object files of the proved desk, which DESK_OBJECT and VALUE_OBJECT name.
 
 use std::path::PathBuf;
 use std::process::exit;
@@ -17,11 +17,13 @@ fn named(variable: &str) -> PathBuf {
 }
 
 fn main() {
-    let (source, object) = (named("GGRS_SRC"), named("DESK_OBJECT"));
+    let source = named("GGRS_SRC");
     for file in ["frame_info.rs", "input_queue.rs", "sync_layer.rs"] {
         println!("cargo:rerun-if-changed={}", source.join(file).display());
     }
-    println!("cargo:rerun-if-changed={}", object.display());
     println!("cargo:rustc-env=GGRS_SRC={}", source.display());
-    println!("cargo:rustc-link-arg={}", object.display());
+    for object in [named("DESK_OBJECT"), named("VALUE_OBJECT")] {
+        println!("cargo:rerun-if-changed={}", object.display());
+        println!("cargo:rustc-link-arg={}", object.display());
+    }
 }

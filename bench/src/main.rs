@@ -1,7 +1,8 @@
-//! One night on the proved desk and on ggrs, and single calls of the layer below: the time of each.
+//! One night on the proved desk, lent and by value, and on ggrs, and single calls of the layer below: the time of each.
 //!
 //! `bench [FRAMES] [RUNS]`. Times are the CPU time of this thread, each the least of some runs that take turns.
 
+mod by_value;
 mod night;
 mod ours;
 mod theirs;
@@ -51,22 +52,28 @@ fn played<D: Desk>(frames: u32) -> Ended {
     night::play(&mut D::open(), frames)
 }
 
-/// Nights on both desks must end alike; a time of another night would say nothing.
+/// All nights must end alike; a time of another night would say nothing.
 fn nights(frames: u32, runs: usize) {
-    let (ours, theirs) = (played::<ours::Lent>(frames), played::<theirs::Ggrs>(frames));
-    if ours != theirs {
-        eprintln!("The nights ended differently:\n  ours   {ours:x?}\n  theirs {theirs:x?}");
-        exit(1);
+    let theirs = played::<theirs::Ggrs>(frames);
+    for (which, ours) in [("lent", played::<ours::Lent>(frames)), ("by value", by_value::play(frames))] {
+        if ours != theirs {
+            eprintln!("The nights ended differently:\n  ours, {which} {ours:x?}\n  theirs {theirs:x?}");
+            exit(1);
+        }
     }
-    println!("two seats, {frames} frames, {} corrections, {} frames played again", ours.corrections, ours.replayed);
-    println!("both end with head {:08x}, kind {}, seal {:08x}", ours.console[0], ours.console[1], ours.console[2]);
-    let [ours, theirs] = least(
+    println!("two seats, {frames} frames, {} corrections, {} frames played again", theirs.corrections, theirs.replayed);
+    println!("all end with head {:08x}, kind {}, seal {:08x}", theirs.console[0], theirs.console[1], theirs.console[2]);
+    let [lent, value, theirs] = least(
         runs,
         frames,
-        [&mut || _ = black_box(played::<ours::Lent>(frames)), &mut || _ = black_box(played::<theirs::Ggrs>(frames))],
+        [
+            &mut || _ = black_box(played::<ours::Lent>(frames)),
+            &mut || _ = black_box(by_value::play(frames)),
+            &mut || _ = black_box(played::<theirs::Ggrs>(frames)),
+        ],
     );
-    row("a frame, lent desk", ours, theirs);
-    // The desk by value has its row here, once its crate and its face are there.
+    row("a frame, lent desk", lent, theirs);
+    row("a frame, desk by value", value, theirs);
 }
 
 fn calls(runs: usize) {

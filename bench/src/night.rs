@@ -28,6 +28,12 @@ fn word(seat: u32, frame: u32) -> u32 {
     (frame / 5).wrapping_mul(2_654_435_761).wrapping_add(seat)
 }
 
+/// The night's words, two a frame, as they come in: seat 0's, and seat 1's of the frame that it is late by, 0 before there is one.
+pub fn words(frames: u32) -> Vec<u32> {
+    let late = |frame| if frame >= LATE { word(1, frame - LATE) } else { 0 };
+    (0..frames).flat_map(|frame| [word(0, frame), late(frame)]).collect()
+}
+
 pub fn play<D: Desk>(desk: &mut D, frames: u32) -> Ended {
     let (mut corrections, mut replayed, mut words) = (0, 0, 0u32);
     for frame in 0..frames {
