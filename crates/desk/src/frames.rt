@@ -78,7 +78,16 @@ fn play(seats: &mut [u32], words: &[u32], slots: &mut [u32], desk: DeskState, en
     if next.current >= end {
         return next;
     }
-    play(seats, words, slots, next, end)
+    // What is lent to a call stays in memory. A copy is lent, so that `next` need not.
+    let console = next.console;
+    let rest = DeskState {
+        seats: next.seats,
+        limit: next.limit,
+        predictor: next.predictor,
+        current: next.current,
+        console,
+    };
+    play(seats, words, slots, rest, end)
 }
 
 // To the end: no frame where the desk is there, else one frame and then the rest of the replay.

@@ -64,8 +64,8 @@ play-play-requires : (t : ℕ) → play-lts.Need-play-requires (
   play.Post,
 ) (play-at t) play.Post
 play-play-requires t c κs =
-    let e = c .before .before .before .before .before .before .before .before .one-frame .ensures in
-    let h = c .before .before .before .before .before .before .before .before .before .before .before .before .before .before .pre in
+    let e = c .before .before .before .before .before .before .before .before .before .one-frame .ensures in
+    let h = c .before .before .before .before .before .before .before .before .before .before .before .before .before .before .before .pre in
     (omega (arith, next-current _ _ _ _ _ _ _ e, h .0, h .1 .1), (play-whole _ _ _ _ _ _ _ _ e (h .1 .1) (h .1 .0) (search needs) (h .1 .2), search needs, search needs))
 
 -- src/frames.rt:73:1
@@ -94,7 +94,7 @@ play-returns-2 : (t : ℕ) → play-lts.Need-returns-2 (
   play.Post,
 ) (play-at t) play.Post
 play-returns-2 t c =
-    play-rest _ _ _ _ _ _ _ _ (c .before .before .before .before .before .before .before .before .before .before .before .before .before .one-frame .ensures) (c .before .before .before .before .before .before .before .before .before .before .before .before .before .before .before .before .before .before .before .pre .1 .1) _ _ _ (c .before .before .before .before .play .ensures)
+    play-rest _ _ _ _ _ _ _ _ (c .before .before .before .before .before .before .before .before .before .before .before .before .before .before .one-frame .ensures) (c .before .before .before .before .before .before .before .before .before .before .before .before .before .before .before .before .before .before .before .before .pre .1 .1) _ _ _ (c .before .before .before .before .play .ensures)
 
 pub +play-spec : {M : Type 1} → statement M
 +play-spec = close μ-play λ t. play-lts.spec (
