@@ -1,4 +1,5 @@
-//! Finds the original files, as the oracle does, and the object files of the proved desk, which DESK_OBJECT and VALUE_OBJECT name.
+//! Finds the original files, as the oracle does, and the object files of the proved desks, which DESK_OBJECT and
+//! VALUE_OBJECT name.
 
 use std::path::PathBuf;
 use std::process::exit;

@@ -4,13 +4,7 @@ use crate::night::{self, Ended};
 
 // A lent list is a pointer and a length.
 extern "C" {
-    fn value_night(
-        words: *const u32,
-        words_length: usize,
-        frames: u32,
-        said: *mut u32,
-        said_length: usize,
-    ) -> u32;
+    fn value_night(words: *const u32, words_length: usize, frames: u32, said: *mut u32, said_length: usize) -> u32;
 }
 
 /// Laying out the words is timed too: the other desks' words are made as the night goes on.

@@ -28,7 +28,7 @@ fn word(seat: u32, frame: u32) -> u32 {
     (frame / 5).wrapping_mul(2_654_435_761).wrapping_add(seat)
 }
 
-/// The night's words, two a frame, as they come in: seat 0's, and seat 1's of the frame that it is late by, 0 before there is one.
+/// The night's words as they come in, two a frame: seat 0's, and seat 1's of some frames before, 0 where there is none.
 pub fn words(frames: u32) -> Vec<u32> {
     let late = |frame| if frame >= LATE { word(1, frame - LATE) } else { 0 };
     (0..frames).flat_map(|frame| [word(0, frame), late(frame)]).collect()

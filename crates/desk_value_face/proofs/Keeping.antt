@@ -1,6 +1,6 @@
 -- Each call of a desk by value hands back a whole desk. Assumes nothing.
 use Prim.Native.Nat.{ℕ}
-use mathlib.Core.Path.{_≡_, sym, ap, subst}
+use mathlib.Core.Path.{_≡_, sym, subst}
 use mathlib.Core.List.{List}
 use lib.IntN.{ℤ}
 use Rattle.desk.specs.Runs.{take-call, advance-call}
@@ -23,5 +23,3 @@ module _ (y : Desk) (h : held.Whole y) where
   pub advance-kept : (a : AdvancedDesk) → a ≡ held.advanced y → held.Whole (a .desk)
   unfolding held.after
   advance-kept a e = subst (λ (x : AdvancedDesk). held.Whole (x .desk)) (sym e) (held-after-whole y advance-call h)
-
-pub ruleset keeping = (open-kept, take-kept, advance-kept)

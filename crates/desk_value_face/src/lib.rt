@@ -7,7 +7,7 @@ use console::Console;
 use desk_value::Desk;
 use sync_layer::MAX_SEATS;
 ghost use mathlib.Core.Path.{_≡_};
-ghost use Prim.Native.Nat.{_+_, _*_, _≤_, _<_};
+ghost use Prim.Native.Nat.{_*_, _≤_, _<_};
 ghost use lib.ListN.{length};
 ghost use Rattle.desk_value.specs.Value as held;
 

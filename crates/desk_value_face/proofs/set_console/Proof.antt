@@ -6,23 +6,23 @@ use Rattle.desk_value_face.proofs.set_console.Tie as tie
 use Rattle.desk_value_face.proofs.set_console.Reads as reads
 use Rattle.desk_value_face.proofs.set_console.Lts as lts
 
--- src/lib.rt:98:5
+-- src/lib.rt:106:5
 slice-write-said : tie.Need-slice-write-said
 slice-write-said c = search needs
 
--- src/lib.rt:99:5
+-- src/lib.rt:107:5
 slice-write-said-2 : tie.Need-slice-write-said-2
 slice-write-said-2 c = simp length-set (omega arith)
 
--- src/lib.rt:100:5
+-- src/lib.rt:108:5
 slice-write-said-3 : tie.Need-slice-write-said-3
 slice-write-said-3 c = simp length-set (omega arith)
 
--- src/lib.rt:94:1
+-- src/lib.rt:102:1
 same-length : tie.Need-same-length
 same-length c = search needs
 
--- src/lib.rt:94:1
+-- src/lib.rt:102:1
 returns : tie.Need-returns
 returns c = search needs
 

@@ -20,79 +20,79 @@ Inv-loop words frames said₀ desk₀ frame₀ said desk frame = held.Whole desk
 abbrev μ-loop : tie.MeasureT-loop
 μ-loop words frames said₀ desk₀ frame₀ said desk frame = frames - frame
 
--- src/lib.rt:110:31
+-- src/lib.rt:118:35
 slice-aggregate-setup : tie.Need-slice-aggregate-setup Inv-loop μ-loop
 slice-aggregate-setup c = search needs
 
--- src/lib.rt:110:9
+-- src/lib.rt:118:9
 setup-requires : tie.Need-setup-requires Inv-loop μ-loop
 setup-requires c κs = search needs
 
--- src/lib.rt:111:5
+-- src/lib.rt:119:5
 mark-requires : tie.Need-mark-requires Inv-loop μ-loop
 mark-requires c κs = search needs
 
--- src/lib.rt:114:5
+-- src/lib.rt:122:5
 loop-holds : tie.Need-loop-holds Inv-loop μ-loop
 loop-holds c = (open-kept _ _ _ _ (c .before .before .before .before .before .setup .ensures), search needs, search needs, search needs)
 
--- src/lib.rt:115:23
+-- src/lib.rt:123:23
 cast-at : tie.Need-cast-at Inv-loop μ-loop
 cast-at c = search needs
 
--- src/lib.rt:115:18
+-- src/lib.rt:123:18
 mul-at : tie.Need-mul-at Inv-loop μ-loop
 mul-at c = search needs
 
--- src/lib.rt:116:34
+-- src/lib.rt:124:34
 mul-turn : tie.Need-mul-turn Inv-loop μ-loop
 mul-turn c = search needs
 
--- src/lib.rt:116:34
+-- src/lib.rt:124:34
 shared-slice-read-turn : tie.Need-shared-slice-read-turn Inv-loop μ-loop
 shared-slice-read-turn c = search needs
 
--- src/lib.rt:116:51
+-- src/lib.rt:124:51
 add-turn : tie.Need-add-turn Inv-loop μ-loop
 add-turn c = search needs
 
--- src/lib.rt:116:45
+-- src/lib.rt:124:45
 mul-turn-2 : tie.Need-mul-turn-2 Inv-loop μ-loop
 mul-turn-2 c = search needs
 
--- src/lib.rt:116:45
+-- src/lib.rt:124:45
 shared-slice-read-turn-2 : tie.Need-shared-slice-read-turn-2 Inv-loop μ-loop
 shared-slice-read-turn-2 c = search needs
 
--- src/lib.rt:116:9
+-- src/lib.rt:124:9
 turn-requires : tie.Need-turn-requires Inv-loop μ-loop
 turn-requires c κs = search needs
 
--- src/lib.rt:117:9
+-- src/lib.rt:125:9
 add-frame : tie.Need-add-frame Inv-loop μ-loop
 add-frame c = omega (arith, c .before .before .before .before .before .before .before .before .before .before .before .before .before .before .before .before .before .pre .0, c .before .before .before .before .before .before .loop-test)
 
--- src/lib.rt:114:5
+-- src/lib.rt:122:5
 loop-less : tie.Need-loop-less Inv-loop μ-loop
 loop-less c = search needs
 
--- src/lib.rt:114:5
+-- src/lib.rt:122:5
 loop-again : tie.Need-loop-again Inv-loop μ-loop
 loop-again c = (c .before .before .turn .ensures .0, search needs, search needs, search needs)
 
--- src/lib.rt:121:5
+-- src/lib.rt:129:5
 set-console-requires : tie.Need-set-console-requires Inv-loop μ-loop
 set-console-requires c κs = search needs
 
--- src/lib.rt:122:5
+-- src/lib.rt:130:5
 slice-read-result : tie.Need-slice-read-result Inv-loop μ-loop
 slice-read-result c = search needs
 
--- src/lib.rt:104:1
+-- src/lib.rt:112:1
 same-length : tie.Need-same-length Inv-loop μ-loop
 same-length c = search needs
 
--- src/lib.rt:104:1
+-- src/lib.rt:112:1
 returns : tie.Need-returns Inv-loop μ-loop
 returns c = search needs
 
