@@ -8,7 +8,7 @@ use crate::host::{predict_with, ConnectionStatus, Frame, GgrsRequest, InputStatu
 use crate::layer::{fresh, state_in, State};
 use crate::queue::{discard_loses, input_frame, not_below, placed, write_served, ADD_PANICS, LAST_FRAME};
 use crate::refusal::{ask, no, No};
-use crate::sheet::{Answers, Fields};
+use crate::sheet::{Answers, Fields, Part};
 use crate::sync_layer::SyncLayer;
 
 const MOST_ROOM: u32 = 4096;
@@ -238,20 +238,6 @@ impl Desk {
         }
         Some(())
     }
-
-    fn answer<T>(
-        &mut self,
-        out: &mut Answers,
-        call: impl FnOnce(&mut Self) -> Result<T, No>,
-        write: impl FnOnce(&mut Answers, T),
-    ) {
-        if self.lost {
-            return out.field('?');
-        }
-        if let Some(values) = out.result(call(self)) {
-            write(out, values);
-        }
-    }
 }
 
 fn write_report(out: &mut Answers, (frame, count): Report) {
@@ -261,4 +247,10 @@ fn write_report(out: &mut Answers, (frame, count): Report) {
 
 fn write_shown(out: &mut Answers, (words, after): (Vec<u32>, State)) {
     words.into_iter().chain(after).for_each(|word| out.word(word));
+}
+
+impl Part for Desk {
+    fn lost(&self) -> bool {
+        self.lost
+    }
 }

@@ -7,7 +7,7 @@ use crate::queue::{
     CONFIRMED_PANICS, LAST_FRAME, MOST_DELAY, PREDICTORS, REQUEST_PANICS,
 };
 use crate::refusal::{ask, no, No};
-use crate::sheet::{Answers, Fields};
+use crate::sheet::{Answers, Fields, Part};
 use crate::sync_layer::{GameStateCell, SyncLayer};
 
 const MOST_SEATS: usize = 4;
@@ -291,25 +291,17 @@ impl Layer {
     fn now(&self) -> [Frame; 3] {
         [self.layer.current_frame(), self.layer.last_saved_frame(), self.layer.last_confirmed_frame()]
     }
-
-    fn answer<T>(
-        &mut self,
-        out: &mut Answers,
-        call: impl FnOnce(&mut Self) -> Result<T, No>,
-        write: impl FnOnce(&mut Answers, T),
-    ) {
-        if self.lost {
-            return out.field('?');
-        }
-        if let Some(values) = out.result(call(self)) {
-            write(out, values);
-        }
-    }
 }
 
 fn write_confirmed(out: &mut Answers, inputs: Vec<PlayerInput<u32>>) {
     for input in inputs {
         out.field(input.frame);
         out.word(input.input);
+    }
+}
+
+impl Part for Layer {
+    fn lost(&self) -> bool {
+        self.lost
     }
 }

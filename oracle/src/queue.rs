@@ -4,7 +4,7 @@ use crate::frame_info::PlayerInput;
 use crate::host::{predict_with, Frame, InputStatus, Words};
 use crate::input_queue::InputQueue;
 use crate::refusal::{ask, no, No};
-use crate::sheet::{Answers, Fields};
+use crate::sheet::{Answers, Fields, Part};
 
 pub const LAST_FRAME: Frame = 1_000_000_000;
 pub const MOST_DELAY: u32 = 60;
@@ -195,24 +195,16 @@ impl Queue {
         }
         Some(())
     }
-
-    fn answer<T>(
-        &mut self,
-        out: &mut Answers,
-        call: impl FnOnce(&mut Self) -> Result<T, No>,
-        write: impl FnOnce(&mut Answers, T),
-    ) {
-        if self.lost {
-            return out.field('?');
-        }
-        if let Some(values) = out.result(call(self)) {
-            write(out, values);
-        }
-    }
 }
 
 pub fn write_announced(out: &mut Answers, (first, count, word): (Frame, usize, u32)) {
     out.field(first);
     out.field(count);
     out.word(word);
+}
+
+impl Part for Queue {
+    fn lost(&self) -> bool {
+        self.lost
+    }
 }

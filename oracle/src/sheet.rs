@@ -172,3 +172,22 @@ impl Answers {
         None
     }
 }
+
+/// A part whose calls are answered by `?` once it is lost: after an announced departure there is nothing to compare with.
+pub trait Part: Sized {
+    fn lost(&self) -> bool;
+
+    fn answer<T>(
+        &mut self,
+        out: &mut Answers,
+        call: impl FnOnce(&mut Self) -> Result<T, crate::refusal::No>,
+        write: impl FnOnce(&mut Answers, T),
+    ) {
+        if self.lost() {
+            return out.field('?');
+        }
+        if let Some(values) = out.result(call(self)) {
+            write(out, values);
+        }
+    }
+}
