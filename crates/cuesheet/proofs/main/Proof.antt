@@ -11,148 +11,148 @@ use Rattle.cuesheet.proofs.line_buffer.Reads as line-buffer-reads
 use Rattle.cuesheet.proofs.ring_buffer.Reads as ring-buffer-reads
 use Rattle.cuesheet.proofs.seat_buffer.Reads as seat-buffer-reads
 use Rattle.cuesheet.proofs.slot_buffer.Reads as slot-buffer-reads
-use Rattle.cuesheet.proofs.start.Reads as start-reads
+use Rattle.cues_world.proofs.start.Reads as start-reads
 use Rattle.cuesheet.proofs.word_buffer.Reads as word-buffer-reads
 use Rattle.io.proofs.large_buffer.Reads as large-buffer-reads
 use Rattle.io.proofs.write_all.Reads as write-all-reads
 
--- src/main.rt:480:21
+-- src/main.rt:198:21
 large-buffer-requires : tie.Need-large-buffer-requires
 large-buffer-requires c κs = search needs
 
--- src/main.rt:481:20
+-- src/main.rt:199:20
 line-buffer-requires : tie.Need-line-buffer-requires
 line-buffer-requires c κs = search needs
 
--- src/main.rt:482:20
+-- src/main.rt:200:20
 field-buffer-requires : tie.Need-field-buffer-requires
 field-buffer-requires c κs = search needs
 
--- src/main.rt:483:20
+-- src/main.rt:201:20
 ring-buffer-requires : tie.Need-ring-buffer-requires
 ring-buffer-requires c κs = search needs
 
--- src/main.rt:484:27
+-- src/main.rt:202:27
 seat-buffer-requires : tie.Need-seat-buffer-requires
 seat-buffer-requires c κs = search needs
 
--- src/main.rt:485:27
+-- src/main.rt:203:27
 word-buffer-requires : tie.Need-word-buffer-requires
 word-buffer-requires c κs = search needs
 
--- src/main.rt:486:27
+-- src/main.rt:204:27
 slot-buffer-requires : tie.Need-slot-buffer-requires
 slot-buffer-requires c κs = search needs
 
--- src/main.rt:487:26
+-- src/main.rt:205:26
 seat-buffer-requires-2 : tie.Need-seat-buffer-requires-2
 seat-buffer-requires-2 c κs = search needs
 
--- src/main.rt:488:26
+-- src/main.rt:206:26
 word-buffer-requires-2 : tie.Need-word-buffer-requires-2
 word-buffer-requires-2 c κs = search needs
 
--- src/main.rt:489:26
+-- src/main.rt:207:26
 slot-buffer-requires-2 : tie.Need-slot-buffer-requires-2
 slot-buffer-requires-2 c κs = search needs
 
--- src/main.rt:490:19
+-- src/main.rt:208:19
 large-buffer-requires-2 : tie.Need-large-buffer-requires-2
 large-buffer-requires-2 c κs = search needs
 
--- src/main.rt:492:9
+-- src/main.rt:210:9
 slice-aggregate-start : tie.Need-slice-aggregate-start
 slice-aggregate-start c = search needs
 
--- src/main.rt:493:9
+-- src/main.rt:211:9
 slice-aggregate-start-2 : tie.Need-slice-aggregate-start-2
 slice-aggregate-start-2 c = search needs
 
--- src/main.rt:494:9
+-- src/main.rt:212:9
 slice-aggregate-start-3 : tie.Need-slice-aggregate-start-3
 slice-aggregate-start-3 c = search needs
 
--- src/main.rt:495:9
+-- src/main.rt:213:9
 slice-aggregate-start-4 : tie.Need-slice-aggregate-start-4
 slice-aggregate-start-4 c = search needs
 
--- src/main.rt:496:9
+-- src/main.rt:214:9
 slice-aggregate-start-5 : tie.Need-slice-aggregate-start-5
 slice-aggregate-start-5 c = search needs
 
--- src/main.rt:497:9
+-- src/main.rt:215:9
 slice-aggregate-start-6 : tie.Need-slice-aggregate-start-6
 slice-aggregate-start-6 c = search needs
 
--- src/main.rt:498:9
+-- src/main.rt:216:9
 slice-aggregate-start-7 : tie.Need-slice-aggregate-start-7
 slice-aggregate-start-7 c = search needs
 
--- src/main.rt:491:9
+-- src/main.rt:209:9
 start-requires : tie.Need-start-requires
 start-requires c κs = search needs
 
--- src/main.rt:501:9
+-- src/main.rt:219:9
 slice-aggregate-answer-all : tie.Need-slice-aggregate-answer-all
 slice-aggregate-answer-all c = search (needs, c .before .before .before .before .before .before .before .before .before .before .before .before .before .before .before .before .before .before .before .before .before .before .before .large-buffer .ensures)
 
--- src/main.rt:502:9
+-- src/main.rt:220:9
 slice-aggregate-answer-all-2 : tie.Need-slice-aggregate-answer-all-2
 slice-aggregate-answer-all-2 c = search (needs, c .before .before .before .before .before .before .before .before .before .before .before .before .before .before .before .before .before .before .before .before .before .before .before .line-buffer .ensures)
 
--- src/main.rt:503:9
+-- src/main.rt:221:9
 slice-aggregate-answer-all-3 : tie.Need-slice-aggregate-answer-all-3
 slice-aggregate-answer-all-3 c = search (needs, c .before .before .before .before .before .before .before .before .before .before .before .before .before .before .before .before .before .before .before .before .before .before .before .field-buffer .ensures)
 
--- src/main.rt:504:9
+-- src/main.rt:222:9
 slice-aggregate-answer-all-4 : tie.Need-slice-aggregate-answer-all-4
 slice-aggregate-answer-all-4 c = search (needs, c .before .before .before .before .before .before .before .before .before .before .before .before .before .before .before .before .before .before .before .before .before .before .before .ring-buffer .ensures)
 
--- src/main.rt:505:9
+-- src/main.rt:223:9
 slice-aggregate-answer-all-5 : tie.Need-slice-aggregate-answer-all-5
 slice-aggregate-answer-all-5 c = search needs
 
--- src/main.rt:506:9
+-- src/main.rt:224:9
 slice-aggregate-answer-all-6 : tie.Need-slice-aggregate-answer-all-6
 slice-aggregate-answer-all-6 c = search (needs, c .before .before .before .before .before .before .before .before .before .before .before .before .before .before .before .before .before .before .before .before .before .before .before .word-buffer .ensures)
 
--- src/main.rt:507:9
+-- src/main.rt:225:9
 slice-aggregate-answer-all-7 : tie.Need-slice-aggregate-answer-all-7
 slice-aggregate-answer-all-7 c = search needs
 
--- src/main.rt:508:9
+-- src/main.rt:226:9
 slice-aggregate-answer-all-8 : tie.Need-slice-aggregate-answer-all-8
 slice-aggregate-answer-all-8 c = search needs
 
--- src/main.rt:509:9
+-- src/main.rt:227:9
 slice-aggregate-answer-all-9 : tie.Need-slice-aggregate-answer-all-9
 slice-aggregate-answer-all-9 c = search (needs, c .before .before .before .before .before .before .before .before .before .before .before .before .before .before .before .before .before .before .before .before .before .before .before .word-buffer2 .ensures)
 
--- src/main.rt:510:9
+-- src/main.rt:228:9
 slice-aggregate-answer-all-10 : tie.Need-slice-aggregate-answer-all-10
 slice-aggregate-answer-all-10 c = search needs
 
--- src/main.rt:512:9
+-- src/main.rt:230:9
 slice-aggregate-answer-all-11 : tie.Need-slice-aggregate-answer-all-11
 slice-aggregate-answer-all-11 c = search needs
 
--- src/main.rt:500:9
+-- src/main.rt:218:9
 answer-all-requires : tie.Need-answer-all-requires
-answer-all-requires c κs = (c .before .before .before .before .before .before .before .before .before .before .before .before .before .before .before .before .before .before .before .before .before .before .before .before .before .before .before .before .before .before .before .before .line-buffer .ensures, c .before .before .before .before .before .before .before .before .before .before .before .before .before .before .before .before .before .before .before .before .before .before .before .before .before .before .before .before .before .before .before .field-buffer .ensures, c .before .before .before .before .before .before .before .before .before .before .before .before .before .before .before .start .ensures, c .before .before .before .before .before .before .before .before .before .before .before .before .before .before .before .before .before .before .before .before .before .before .before .large-buffer2 .ensures)
+answer-all-requires c κs = (c .before .before .before .before .before .before .before .before .before .before .before .before .before .before .before .before .before .before .before .before .before .before .before .before .before .before .before .before .before .before .before .before .line-buffer .ensures, omega (arith, c .before .before .before .before .before .before .before .before .before .before .before .before .before .before .before .before .before .before .before .before .before .before .before .before .before .before .before .before .before .before .before .field-buffer .ensures), c .before .before .before .before .before .before .before .before .before .before .before .before .before .before .before .start .ensures .0, c .before .before .before .before .before .before .before .before .before .before .before .before .before .before .before .start .ensures .1, c .before .before .before .before .before .before .before .before .before .before .before .before .before .before .before .before .before .before .before .before .before .before .before .large-buffer2 .ensures)
 
--- src/main.rt:515:34
+-- src/main.rt:232:34
 array-share-prefix-out : tie.Need-array-share-prefix-out
 array-share-prefix-out c = search needs
 
--- src/main.rt:515:34
+-- src/main.rt:232:34
 slice-aggregate-write-all : tie.Need-slice-aggregate-write-all
-slice-aggregate-write-all c = simp length-take (omega (arith, c .before .before .before .before .before .before .before .before .before .before .before .before .answer-all .ensures .room, c .before .before .before .before .before .before .before .before .before .before .before .before .before .before .before .before .before .before .before .before .before .before .before .before .before .before .before .before .before .before .before .before .before .before .before .before .large-buffer2 .ensures))
+slice-aggregate-write-all c = simp length-take (omega (arith, c .before .before .before .before .before .before .before .before .before .before .before .before .answer-all .ensures, c .before .before .before .before .before .before .before .before .before .before .before .before .before .before .before .before .before .before .before .before .before .before .before .before .before .before .before .before .before .before .before .before .before .before .before .before .large-buffer2 .ensures))
 
--- src/main.rt:515:5
+-- src/main.rt:232:5
 write-all-requires : tie.Need-write-all-requires
 write-all-requires c κs = search needs
 
--- src/main.rt:479:1
+-- src/main.rt:197:1
 returns : tie.Need-returns
 returns c = search needs
 
