@@ -40,6 +40,11 @@ impl<'a> Fields<'a> {
         unsigned(self.next()?, most)
     }
 
+    /// All fields of a setup with a list: the limit, the predictor and the delays.
+    pub fn setup(&mut self) -> Option<(u32, u32, Vec<u32>)> {
+        Some((self.number()?, self.number()?, self.numbers_up_to(u32::MAX)?))
+    }
+
     /// All fields that are left, each a number of at most `most`.
     pub fn numbers_up_to(&mut self, most: u32) -> Option<Vec<u32>> {
         let mut all = Vec::new();

@@ -1,9 +1,9 @@
 //! Sheets for the desk: nights with late and uneven hands, and with calls that are refused.
 
-use crate::model::Seat;
+use crate::model::{known, wrongs, Seat, Setup};
 use crate::queue::input_word;
 use crate::random::Random;
-use crate::sheet::Field::{self, Frame, Number, Word};
+use crate::sheet::Field::{Frame, Number, Word};
 use crate::sheet::Sheet;
 
 /// What the desk looks like after the calls made so far, as far as the next ones are chosen by it.
@@ -14,21 +14,16 @@ struct Desk {
 }
 
 impl Desk {
-    fn new(limit: u32, predictor: u32, delays: &[u32]) -> Self {
-        Desk {
-            limit: limit as i32,
-            seats: delays.iter().map(|&delay| Seat::new(predictor, delay)).collect(),
-            current: 0,
-        }
+    fn new(setup: &Setup) -> Self {
+        Desk { limit: setup.limit as i32, seats: setup.seats(), current: 0 }
     }
 
-    /// The least newest place.
     fn known(&self) -> i32 {
-        self.seats.iter().map(|seat| seat.newest).min().unwrap_or(-1)
+        known(&self.seats)
     }
 
     fn lowest_wrong(&self) -> Option<i32> {
-        self.seats.iter().map(|seat| seat.wrong).filter(|&wrong| wrong != -1).min()
+        wrongs(&self.seats).min()
     }
 
     fn serve(&mut self) {
@@ -113,7 +108,7 @@ impl Hand {
 }
 
 pub fn sheet(sheet: &mut Sheet) {
-    let mut desk = Desk::new(0, 0, &[0]);
+    let mut desk = Desk::new(&Setup::fresh());
     let mut bare = sheet.random.once_in(2);
     while !sheet.full() {
         if !bare {
@@ -139,27 +134,11 @@ fn delay(random: &mut Random) -> u32 {
 
 fn setup(sheet: &mut Sheet) -> Desk {
     let random = &mut sheet.random;
-    let mut limit = random.below(16) as u32;
-    let mut predictor = random.below(3) as u32;
+    let (limit, predictor) = (random.below(16) as u32, random.below(3) as u32);
     let seats = 1 + random.below(4);
-    let mut delays: Vec<u32> = (0..seats).map(|_| delay(random)).collect();
+    let delays = (0..seats).map(|_| delay(random)).collect();
     let refused = random.once_in(12);
-    if refused {
-        match random.below(5) {
-            0 => limit = random.pick(&[16, 17, 255, u32::MAX]),
-            1 => predictor = random.pick(&[3, 4, u32::MAX]),
-            2 => delays.clear(),
-            3 => delays.resize(random.pick(&[5, 6, 40]), 0),
-            _ => delays[random.below(seats)] = random.pick(&[61, 62, u32::MAX]),
-        }
-    }
-    let fields: Vec<Field> = [limit, predictor].iter().chain(&delays).map(|&number| Number(number)).collect();
-    sheet.call("desk", &fields);
-    if refused {
-        Desk::new(0, 0, &[0])
-    } else {
-        Desk::new(limit, predictor, &delays)
-    }
+    Desk::new(&Setup { limit, predictor, delays }.call(sheet, "desk", refused, |random| random.below(seats)))
 }
 
 /// One frame of a night: the hands' words, and the calls that follow.

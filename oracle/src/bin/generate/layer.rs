@@ -1,6 +1,6 @@
 //! Sheets for `layer` and `l.*`: sessions much as a desk would run them, with calls left out, misplaced and wild.
 
-use crate::model::Seat;
+use crate::model::{known, wrongs, Seat, Setup};
 use crate::queue::{delay, input_frame, input_word, new_delay};
 use crate::random::Random;
 use crate::sheet::Field::{self, Frame, Number, Text, Word};
@@ -17,28 +17,27 @@ struct Layer {
 }
 
 impl Layer {
-    fn new(limit: u32, predictor: u32, delays: &[u32]) -> Self {
+    fn new(setup: &Setup) -> Self {
         Layer {
-            limit: limit as i32,
-            seats: delays.iter().map(|&delay| Seat::new(predictor, delay)).collect(),
-            slots: vec![-1; limit as usize + 1],
+            limit: setup.limit as i32,
+            seats: setup.seats(),
+            slots: vec![-1; setup.limit as usize + 1],
             current: 0,
             saved: -1,
             lost: false,
         }
     }
 
-    /// The least newest place.
     fn known(&self) -> i32 {
-        self.seats.iter().map(|seat| seat.newest).min().unwrap_or(-1)
+        known(&self.seats)
     }
 
     fn lowest_wrong(&self) -> Option<i32> {
-        self.seats.iter().map(|seat| seat.wrong).filter(|&wrong| wrong != -1).min()
+        wrongs(&self.seats).min()
     }
 
     fn highest_wrong(&self) -> Option<i32> {
-        self.seats.iter().map(|seat| seat.wrong).filter(|&wrong| wrong != -1).max()
+        wrongs(&self.seats).max()
     }
 
     /// A seat's mismatch, whether there is one or not.
@@ -105,7 +104,7 @@ impl Scene {
 }
 
 pub fn sheet(sheet: &mut Sheet) {
-    let mut layer = Layer::new(0, 0, &[0]);
+    let mut layer = Layer::new(&Setup::fresh());
     let mut bare = sheet.random.once_in(2);
     while !sheet.full() {
         if !bare {
@@ -127,27 +126,12 @@ pub fn sheet(sheet: &mut Sheet) {
 
 fn setup(sheet: &mut Sheet) -> Layer {
     let random = &mut sheet.random;
-    let mut limit = random.pick(&[0, 1, 2, 2, 3, 5, 8, 15]);
-    let mut predictor = random.below(3) as u32;
+    let limit = random.pick(&[0, 1, 2, 2, 3, 5, 8, 15]);
+    let predictor = random.below(3) as u32;
     let seats = random.pick(&[1, 2, 2, 2, 3, 4]);
-    let mut delays: Vec<u32> = (0..seats).map(|_| delay(random)).collect();
+    let delays = (0..seats).map(|_| delay(random)).collect();
     let refused = random.once_in(15);
-    if refused {
-        match random.below(5) {
-            0 => limit = random.pick(&[16, 17, 255, u32::MAX]),
-            1 => predictor = random.pick(&[3, 4, u32::MAX]),
-            2 => delays.clear(),
-            3 => delays.resize(random.pick(&[5, 6, 40]), 0),
-            _ => delays[0] = random.pick(&[61, 62, u32::MAX]),
-        }
-    }
-    let fields: Vec<Field> = [limit, predictor].iter().chain(&delays).map(|&number| Number(number)).collect();
-    sheet.call("layer", &fields);
-    if refused {
-        Layer::new(0, 0, &[0])
-    } else {
-        Layer::new(limit, predictor, &delays)
-    }
+    Layer::new(&Setup { limit, predictor, delays }.call(sheet, "layer", refused, |_| 0))
 }
 
 /// One frame of a session.

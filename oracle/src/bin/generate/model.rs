@@ -1,5 +1,9 @@
-//! What a seat's queue looks like after the calls made so far, as far as the next calls are chosen by it.
-//! Nothing is compared with this.
+//! What the seats' queues look like after the calls made so far, as far as the next calls are chosen by them, and the
+//! setup that they come from. Nothing is compared with this.
+
+use crate::random::Random;
+use crate::sheet::Field::Number;
+use crate::sheet::Sheet;
 
 pub struct Seat {
     pub predictor: u32,
@@ -93,5 +97,68 @@ impl Seat {
         self.requested = -1;
         self.wrong = -1;
         self.guess = None;
+    }
+}
+
+/// The least newest place.
+pub fn known(seats: &[Seat]) -> i32 {
+    seats.iter().map(|seat| seat.newest).min().unwrap_or(-1)
+}
+
+/// The seats' mismatches.
+pub fn wrongs(seats: &[Seat]) -> impl Iterator<Item = i32> + '_ {
+    seats.iter().map(|seat| seat.wrong).filter(|&wrong| wrong != -1)
+}
+
+/// The fields of a setup with a list of delays.
+pub struct Setup {
+    pub limit: u32,
+    pub predictor: u32,
+    pub delays: Vec<u32>,
+}
+
+impl Setup {
+    /// What is in force at the start, and after a refused setup.
+    pub fn fresh() -> Self {
+        Setup { limit: 0, predictor: 0, delays: vec![0] }
+    }
+
+    pub fn seats(&self) -> Vec<Seat> {
+        self.delays.iter().map(|&delay| Seat::new(self.predictor, delay)).collect()
+    }
+
+    /// Makes the call; `refused` with one field out of range, a delay where `seat` says. Gives what is then in force.
+    pub fn call(
+        mut self,
+        sheet: &mut Sheet,
+        name: &str,
+        refused: bool,
+        seat: impl FnOnce(&mut Random) -> usize,
+    ) -> Self {
+        if refused {
+            self.spoil(&mut sheet.random, seat);
+        }
+        let fields: Vec<_> =
+            [self.limit, self.predictor].iter().chain(&self.delays).map(|&number| Number(number)).collect();
+        sheet.call(name, &fields);
+        if refused {
+            Setup::fresh()
+        } else {
+            self
+        }
+    }
+
+    fn spoil(&mut self, random: &mut Random, seat: impl FnOnce(&mut Random) -> usize) {
+        match random.below(5) {
+            0 => self.limit = random.pick(&[16, 17, 255, u32::MAX]),
+            1 => self.predictor = random.pick(&[3, 4, u32::MAX]),
+            2 => self.delays.clear(),
+            3 => self.delays.resize(random.pick(&[5, 6, 40]), 0),
+            _ => {
+                let delay = random.pick(&[61, 62, u32::MAX]);
+                let seat = seat(random);
+                self.delays[seat] = delay;
+            }
+        }
     }
 }
