@@ -246,8 +246,6 @@ module _ (y : LayerState) (l words : List ℕ) (gone : List Bool) (last : List �
     unfolding calls.standings
     done-standings g = rw (← e) (simp (eq-eqb _ _ h) g)
 
-pub ruleset wholes = (request-gone, request-last, refused-seats, refused-words, refused-standings, done-seats, done-words, done-standings)
-
 -- Lookups, seat by seat
 module _ (g : Bool) (c : ℕ) where
   pub frame-gone : g ≡ true → nullFrame ≡ calls.frameFound g c

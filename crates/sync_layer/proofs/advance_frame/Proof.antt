@@ -1,3 +1,4 @@
+use native.Mathlib.Omega.{arith}
 use Rattle.sync_layer.proofs.Answers.{saves}
 use borrow.Author.Needs.{needs}
 use Rattle.sync_layer.proofs.advance_frame.Statement.{statement}
@@ -8,11 +9,11 @@ use Rattle.sync_layer.proofs.with_current.Reads as with-current-reads
 
 -- src/lib.rt:192:16
 add-next : tie.Need-add-next
-add-next c = search needs
+add-next c = omega arith
 
 -- src/lib.rt:196:20
 with-current-requires : tie.Need-with-current-requires
-with-current-requires c κs = search needs
+with-current-requires c κs = omega arith
 
 -- src/lib.rt:194:9
 returns : tie.Need-returns

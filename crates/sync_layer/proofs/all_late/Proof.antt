@@ -1,3 +1,4 @@
+use native.Mathlib.Omega.{arith}
 use borrow.Author.Needs.{needs}
 use Rattle.sync_layer.proofs.Turns.{lateness}
 use Prim.Native.Nat.{ℕ, _-_}
@@ -16,15 +17,15 @@ abbrev μ-loop : tie.MeasureT-loop
 
 -- src/lib.rt:87:5
 loop-holds : tie.Need-loop-holds Inv-loop μ-loop
-loop-holds c = search (needs, lateness)
+loop-holds c = search needs
 
 -- src/lib.rt:88:12
 mul-if1 : tie.Need-mul-if1 Inv-loop μ-loop
-mul-if1 c = search (needs, lateness)
+mul-if1 c = omega arith
 
 -- src/lib.rt:88:12
 shared-slice-read-if1 : tie.Need-shared-slice-read-if1 Inv-loop μ-loop
-shared-slice-read-if1 c = search (needs, lateness)
+shared-slice-read-if1 c = omega arith
 
 -- src/lib.rt:89:13
 returns : tie.Need-returns Inv-loop μ-loop
@@ -32,11 +33,11 @@ returns c = search (needs, lateness)
 
 -- src/lib.rt:91:9
 add-i : tie.Need-add-i Inv-loop μ-loop
-add-i c = search (needs, lateness)
+add-i c = omega arith
 
 -- src/lib.rt:87:5
 loop-less : tie.Need-loop-less Inv-loop μ-loop
-loop-less c = search (needs, lateness)
+loop-less c = omega arith
 
 -- src/lib.rt:87:5
 loop-again : tie.Need-loop-again Inv-loop μ-loop

@@ -1,3 +1,4 @@
+use native.Mathlib.Omega.{arith}
 use Rattle.sync_layer.proofs.Answers.{confirms}
 use borrow.Author.Needs.{needs}
 use Rattle.sync_layer.proofs.check_simulation_consistency.Statement.{statement}
@@ -9,15 +10,15 @@ use Rattle.sync_layer.proofs.seats.lowest_wrong.Reads as lowest-wrong-r
 
 -- src/lib.rt:442:34
 cast-lowest-wrong : tie.Need-cast-lowest-wrong
-cast-lowest-wrong c = search needs
+cast-lowest-wrong c = omega arith
 
 -- src/lib.rt:442:14
 lowest-wrong-requires : tie.Need-lowest-wrong-requires
-lowest-wrong-requires c κs = search needs
+lowest-wrong-requires c κs = omega arith
 
 -- src/lib.rt:442:5
 frame-of-requires : tie.Need-frame-of-requires
-frame-of-requires c κs = search needs
+frame-of-requires c κs = omega arith
 
 -- src/lib.rt:438:1
 returns : tie.Need-returns

@@ -1,3 +1,4 @@
+use native.Mathlib.Omega.{arith}
 use Rattle.sync_layer.proofs.Answers.{confirms}
 use borrow.Author.Needs.{needs}
 use Rattle.sync_layer.proofs.confirm_cap.Statement.{statement}
@@ -8,15 +9,15 @@ use Rattle.sync_layer.proofs.least.Reads as least-reads
 
 -- src/lib.rt:456:16
 add-next : tie.Need-add-next
-add-next c = search needs
+add-next c = omega arith
 
 -- src/lib.rt:457:9
 least-requires : tie.Need-least-requires
-least-requires c κs = search needs
+least-requires c κs = omega arith
 
 -- src/lib.rt:459:9
 least-requires-2 : tie.Need-least-requires-2
-least-requires-2 c κs = search needs
+least-requires-2 c κs = omega arith
 
 -- src/lib.rt:459:9
 returns : tie.Need-returns
@@ -24,7 +25,7 @@ returns c = search (needs, confirms)
 
 -- src/lib.rt:461:5
 least-requires-3 : tie.Need-least-requires-3
-least-requires-3 c κs = search needs
+least-requires-3 c κs = omega arith
 
 -- src/lib.rt:452:1
 returns-2 : tie.Need-returns-2

@@ -1,3 +1,4 @@
+use native.Mathlib.Omega.{arith}
 use Rattle.sync_layer.proofs.Answers.{confirms}
 use borrow.Author.Needs.{needs}
 use Rattle.sync_layer.proofs.confirm_refusal.Statement.{statement}
@@ -12,11 +13,11 @@ returns c = search (needs, confirms)
 
 -- src/lib.rt:472:37
 cast-lowest-wrong : tie.Need-cast-lowest-wrong
-cast-lowest-wrong c = search needs
+cast-lowest-wrong c = omega arith
 
 -- src/lib.rt:472:9
 lowest-wrong-requires : tie.Need-lowest-wrong-requires
-lowest-wrong-requires c κs = search needs
+lowest-wrong-requires c κs = omega arith
 
 -- src/lib.rt:474:9
 returns-2 : tie.Need-returns-2

@@ -1,3 +1,4 @@
+use native.Mathlib.Omega.{arith}
 use Rattle.sync_layer.proofs.Answers.{setups}
 use borrow.Author.Needs.{needs}
 use Rattle.sync_layer.proofs.fits.Statement.{statement}
@@ -24,7 +25,7 @@ returns-4 c = search (needs, setups)
 
 -- src/lib.rt:112:5
 all-late-requires : tie.Need-all-late-requires
-all-late-requires c κs = search needs
+all-late-requires c κs = omega arith
 
 -- src/lib.rt:96:1
 returns-5 : tie.Need-returns-5

@@ -1,3 +1,4 @@
+use native.Mathlib.Omega.{arith}
 use Rattle.sync_layer.proofs.Answers.{saves}
 use borrow.Author.Needs.{needs}
 use Rattle.sync_layer.proofs.latest_saved_state_in_range.Statement.{statement}
@@ -10,11 +11,11 @@ use Rattle.sync_layer.proofs.slots.highest_in.Reads as highest-in-reads
 
 -- src/lib.rt:309:9
 count-of-requires : tie.Need-count-of-requires
-count-of-requires c κs = search needs
+count-of-requires c κs = omega arith
 
 -- src/lib.rt:310:9
 count-of-requires-2 : tie.Need-count-of-requires-2
-count-of-requires-2 c κs = search needs
+count-of-requires-2 c κs = omega arith
 
 -- src/lib.rt:312:9
 returns : tie.Need-returns
@@ -26,19 +27,19 @@ returns-2 c = search (needs, saves)
 
 -- src/lib.rt:323:13
 cast-n : tie.Need-cast-n
-cast-n c = search needs
+cast-n c = omega arith
 
 -- src/lib.rt:323:13
 add-n : tie.Need-add-n
-add-n c = search needs
+add-n c = omega arith
 
 -- src/lib.rt:326:25
 highest-in-requires : tie.Need-highest-in-requires
-highest-in-requires c κs = search needs
+highest-in-requires c κs = omega arith
 
 -- src/lib.rt:326:16
 frame-of-requires : tie.Need-frame-of-requires
-frame-of-requires c κs = search needs
+frame-of-requires c κs = omega arith
 
 -- src/lib.rt:305:1
 returns-3 : tie.Need-returns-3

@@ -1,3 +1,4 @@
+use native.Mathlib.Omega.{arith}
 use Rattle.sync_layer.proofs.Answers.{saves}
 use borrow.Author.Needs.{needs}
 use Rattle.sync_layer.proofs.load_frame.Statement.{statement}
@@ -12,15 +13,15 @@ use Rattle.sync_layer.proofs.with_current.Reads as with-current-reads
 
 -- src/lib.rt:255:9
 count-of-requires : tie.Need-count-of-requires
-count-of-requires c κs = search needs
+count-of-requires c κs = omega arith
 
 -- src/lib.rt:256:9
 load-refusal-requires : tie.Need-load-refusal-requires
-load-refusal-requires c κs = search needs
+load-refusal-requires c κs = omega arith
 
 -- src/lib.rt:260:20
 new-requires : tie.Need-new-requires
-new-requires c κs = search needs
+new-requires c κs = omega arith
 
 -- src/lib.rt:258:9
 returns : tie.Need-returns
@@ -32,7 +33,7 @@ sub-state-in c = search (needs, saves)
 
 -- src/lib.rt:266:16
 state-in-requires : tie.Need-state-in-requires
-state-in-requires c κs = search needs
+state-in-requires c κs = omega arith
 
 -- src/lib.rt:267:36
 sub-with-current : tie.Need-sub-with-current
@@ -40,7 +41,7 @@ sub-with-current c = search (needs, saves)
 
 -- src/lib.rt:267:16
 with-current-requires : tie.Need-with-current-requires
-with-current-requires c κs = search needs
+with-current-requires c κs = omega arith
 
 -- src/lib.rt:251:1
 returns-2 : tie.Need-returns-2

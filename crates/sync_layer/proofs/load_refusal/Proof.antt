@@ -1,3 +1,4 @@
+use native.Mathlib.Omega.{arith}
 use Rattle.sync_layer.proofs.Answers.{saves}
 use borrow.Author.Needs.{needs}
 use Rattle.sync_layer.proofs.load_refusal.Statement.{statement}
@@ -16,7 +17,7 @@ returns-2 c = search (needs, saves)
 
 -- src/lib.rt:241:8
 add-if3 : tie.Need-add-if3
-add-if3 c = search needs
+add-if3 c = omega arith
 
 -- src/lib.rt:242:9
 returns-3 : tie.Need-returns-3
@@ -24,7 +25,7 @@ returns-3 c = search (needs, saves)
 
 -- src/lib.rt:244:8
 slot-holds-requires : tie.Need-slot-holds-requires
-slot-holds-requires c κs = search needs
+slot-holds-requires c κs = omega arith
 
 -- src/lib.rt:245:9
 returns-4 : tie.Need-returns-4

@@ -1,3 +1,4 @@
+use native.Mathlib.Omega.{arith}
 use Rattle.sync_layer.proofs.Answers.{inputs}
 use borrow.Author.Needs.{needs}
 use Rattle.sync_layer.proofs.local_refusal.Statement.{statement}
@@ -21,7 +22,7 @@ returns-3 c = search (needs, inputs)
 
 -- src/lib.rt:355:17
 add-if4 : tie.Need-add-if4
-add-if4 c = search needs
+add-if4 c = omega arith
 
 -- src/lib.rt:356:9
 returns-4 : tie.Need-returns-4
@@ -29,7 +30,7 @@ returns-4 c = search (needs, inputs)
 
 -- src/lib.rt:358:30
 seat-at-requires : tie.Need-seat-at-requires
-seat-at-requires c κs = search needs
+seat-at-requires c κs = omega arith
 
 -- src/lib.rt:358:5
 add-refusal-requires : tie.Need-add-refusal-requires

@@ -1,3 +1,4 @@
+use native.Mathlib.Omega.{arith}
 use Rattle.sync_layer.proofs.Answers.{setups}
 use borrow.Author.Needs.{needs}
 use Rattle.sync_layer.proofs.new.Statement.{statement}
@@ -11,7 +12,7 @@ use Rattle.sync_layer.proofs.slots.clear_slots.Reads as clear-slots-rea
 
 -- src/lib.rt:136:8
 fits-requires : tie.Need-fits-requires
-fits-requires c κs = search needs
+fits-requires c κs = omega arith
 
 -- src/lib.rt:137:9
 fresh-seats-requires : tie.Need-fresh-seats-requires
@@ -19,7 +20,7 @@ fresh-seats-requires c κs = search (needs, setups)
 
 -- src/lib.rt:138:35
 add-clear-slots : tie.Need-add-clear-slots
-add-clear-slots c = search needs
+add-clear-slots c = omega arith
 
 -- src/lib.rt:138:9
 clear-slots-requires : tie.Need-clear-slots-requires
@@ -31,15 +32,15 @@ cast-fresh-layer c = search (needs, setups)
 
 -- src/lib.rt:141:20
 fresh-layer-requires : tie.Need-fresh-layer-requires
-fresh-layer-requires c κs = search needs
+fresh-layer-requires c κs = omega arith
 
 -- src/lib.rt:139:9
 same-length : tie.Need-same-length
-same-length c = search needs
+same-length c = omega arith
 
 -- src/lib.rt:139:9
 same-length-2 : tie.Need-same-length-2
-same-length-2 c = search needs
+same-length-2 c = omega arith
 
 -- src/lib.rt:139:9
 returns : tie.Need-returns
@@ -51,23 +52,23 @@ slice-aggregate-fresh-seats c = search needs
 
 -- src/lib.rt:145:5
 fresh-seats-requires-2 : tie.Need-fresh-seats-requires-2
-fresh-seats-requires-2 c κs = search needs
+fresh-seats-requires-2 c κs = omega arith
 
 -- src/lib.rt:146:5
 clear-slots-requires-2 : tie.Need-clear-slots-requires-2
-clear-slots-requires-2 c κs = search needs
+clear-slots-requires-2 c κs = omega arith
 
 -- src/lib.rt:149:16
 fresh-layer-requires-2 : tie.Need-fresh-layer-requires-2
-fresh-layer-requires-2 c κs = search needs
+fresh-layer-requires-2 c κs = omega arith
 
 -- src/lib.rt:130:1
 same-length-3 : tie.Need-same-length-3
-same-length-3 c = search needs
+same-length-3 c = omega arith
 
 -- src/lib.rt:130:1
 same-length-4 : tie.Need-same-length-4
-same-length-4 c = search needs
+same-length-4 c = omega arith
 
 -- src/lib.rt:130:1
 returns-2 : tie.Need-returns-2

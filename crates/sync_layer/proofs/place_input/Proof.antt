@@ -32,11 +32,11 @@ set-seat-requires c κs = search (needs, inputs)
 
 -- src/lib.rt:362:1
 same-length : tie.Need-same-length
-same-length c = search needs
+same-length c = omega arith
 
 -- src/lib.rt:362:1
 same-length-2 : tie.Need-same-length-2
-same-length-2 c = search needs
+same-length-2 c = omega arith
 
 -- src/lib.rt:362:1
 returns-2 : tie.Need-returns-2

@@ -1,3 +1,4 @@
+use native.Mathlib.Omega.{arith}
 use Rattle.sync_layer.proofs.Answers.{inputs}
 use borrow.Author.Needs.{needs}
 use Rattle.sync_layer.proofs.remote_refusal.Statement.{statement}
@@ -9,7 +10,7 @@ use Rattle.sync_layer.proofs.seats.seat_at.Reads as seat-at-reads
 
 -- src/lib.rt:336:41
 seat-at-requires : tie.Need-seat-at-requires
-seat-at-requires c κs = search needs
+seat-at-requires c κs = omega arith
 
 -- src/lib.rt:336:9
 add-refusal-requires : tie.Need-add-refusal-requires

@@ -1,3 +1,4 @@
+use native.Mathlib.Omega.{arith}
 use Rattle.sync_layer.proofs.Answers.{saves}
 use borrow.Author.Needs.{needs}
 use Rattle.sync_layer.proofs.saved_refusal.Statement.{statement}
@@ -12,7 +13,7 @@ returns c = search (needs, saves)
 
 -- src/lib.rt:279:8
 slot-holds-requires : tie.Need-slot-holds-requires
-slot-holds-requires c κs = search needs
+slot-holds-requires c κs = omega arith
 
 -- src/lib.rt:280:9
 returns-2 : tie.Need-returns-2

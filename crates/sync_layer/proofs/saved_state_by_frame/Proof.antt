@@ -1,3 +1,4 @@
+use native.Mathlib.Omega.{arith}
 use Rattle.sync_layer.proofs.Answers.{saves}
 use borrow.Author.Needs.{needs}
 use Rattle.sync_layer.proofs.saved_state_by_frame.Statement.{statement}
@@ -11,15 +12,15 @@ use Rattle.sync_layer.proofs.slots.state_in.Reads as state-in-reads
 
 -- src/lib.rt:290:9
 count-of-requires : tie.Need-count-of-requires
-count-of-requires c κs = search needs
+count-of-requires c κs = omega arith
 
 -- src/lib.rt:291:9
 saved-refusal-requires : tie.Need-saved-refusal-requires
-saved-refusal-requires c κs = search needs
+saved-refusal-requires c κs = omega arith
 
 -- src/lib.rt:295:20
 new-requires : tie.Need-new-requires
-new-requires c κs = search needs
+new-requires c κs = omega arith
 
 -- src/lib.rt:293:9
 returns : tie.Need-returns
@@ -31,7 +32,7 @@ sub-state-in c = search (needs, saves)
 
 -- src/lib.rt:300:16
 state-in-requires : tie.Need-state-in-requires
-state-in-requires c κs = search needs
+state-in-requires c κs = omega arith
 
 -- src/lib.rt:286:1
 returns-2 : tie.Need-returns-2

@@ -1,3 +1,4 @@
+use native.Mathlib.Omega.{arith}
 use Rattle.sync_layer.proofs.Answers.{inputs}
 use borrow.Author.Needs.{needs}
 use Rattle.sync_layer.proofs.set_frame_delay.Statement.{statement}
@@ -14,11 +15,11 @@ returns c = search (needs, inputs)
 
 -- src/lib.rt:418:9
 seat-at-requires : tie.Need-seat-at-requires
-seat-at-requires c κs = search needs
+seat-at-requires c κs = omega arith
 
 -- src/lib.rt:419:49
 mul-set-frame-delay : tie.Need-mul-set-frame-delay
-mul-set-frame-delay c = search needs
+mul-set-frame-delay c = omega arith
 
 -- src/lib.rt:419:9
 set-frame-delay-requires : tie.Need-set-frame-delay-requires
@@ -26,11 +27,11 @@ set-frame-delay-requires c κs = search (needs, inputs)
 
 -- src/lib.rt:421:5
 set-seat-requires : tie.Need-set-seat-requires
-set-seat-requires c κs = search needs
+set-seat-requires c κs = omega arith
 
 -- src/lib.rt:404:1
 same-length : tie.Need-same-length
-same-length c = search needs
+same-length c = omega arith
 
 -- src/lib.rt:404:1
 returns-2 : tie.Need-returns-2

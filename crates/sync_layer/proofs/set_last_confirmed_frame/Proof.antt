@@ -1,3 +1,5 @@
+use mathlib.Core.Path.{refl}
+use native.Mathlib.Omega.{arith}
 use Rattle.sync_layer.proofs.Answers.{confirms}
 use borrow.Author.Needs.{needs}
 use Rattle.sync_layer.proofs.set_last_confirmed_frame.Statement.{statement}
@@ -12,11 +14,11 @@ use Rattle.sync_layer.proofs.with_confirmed.Reads as with-confirmed-rea
 
 -- src/lib.rt:501:9
 count-of-requires : tie.Need-count-of-requires
-count-of-requires c κs = search needs
+count-of-requires c κs = omega arith
 
 -- src/lib.rt:502:9
 confirm-cap-requires : tie.Need-confirm-cap-requires
-confirm-cap-requires c κs = search needs
+confirm-cap-requires c κs = omega arith
 
 -- src/lib.rt:503:9
 confirm-refusal-requires : tie.Need-confirm-refusal-requires
@@ -24,7 +26,7 @@ confirm-refusal-requires c κs = search needs
 
 -- src/lib.rt:505:9
 same-length : tie.Need-same-length
-same-length c = search needs
+same-length c = refl
 
 -- src/lib.rt:505:9
 returns : tie.Need-returns
@@ -32,11 +34,11 @@ returns c = search (needs, confirms)
 
 -- src/lib.rt:507:9
 with-confirmed-requires : tie.Need-with-confirmed-requires
-with-confirmed-requires c κs = search needs
+with-confirmed-requires c κs = omega arith
 
 -- src/lib.rt:509:9
 same-length-2 : tie.Need-same-length-2
-same-length-2 c = search needs
+same-length-2 c = refl
 
 -- src/lib.rt:509:9
 returns-2 : tie.Need-returns-2
@@ -44,15 +46,15 @@ returns-2 c = search (needs, confirms)
 
 -- src/lib.rt:514:26
 cast-discard-seats : tie.Need-cast-discard-seats
-cast-discard-seats c = search needs
+cast-discard-seats c = omega arith
 
 -- src/lib.rt:514:5
 discard-seats-requires : tie.Need-discard-seats-requires
-discard-seats-requires c κs = search needs
+discard-seats-requires c κs = omega arith
 
 -- src/lib.rt:496:1
 same-length-3 : tie.Need-same-length-3
-same-length-3 c = search needs
+same-length-3 c = omega arith
 
 -- src/lib.rt:496:1
 returns-3 : tie.Need-returns-3

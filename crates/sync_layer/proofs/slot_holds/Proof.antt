@@ -1,3 +1,4 @@
+use native.Mathlib.Omega.{arith}
 use Rattle.sync_layer.proofs.Answers.{saves}
 use borrow.Author.Needs.{needs}
 use Rattle.sync_layer.proofs.slot_holds.Statement.{statement}
@@ -8,11 +9,11 @@ use Rattle.sync_layer.proofs.slots.count_in.Reads as count-in-reads
 
 -- src/lib.rt:227:28
 sub-count-in : tie.Need-sub-count-in
-sub-count-in c = search needs
+sub-count-in c = omega arith
 
 -- src/lib.rt:227:5
 count-in-requires : tie.Need-count-in-requires
-count-in-requires c κs = search needs
+count-in-requires c κs = omega arith
 
 -- src/lib.rt:223:1
 returns : tie.Need-returns

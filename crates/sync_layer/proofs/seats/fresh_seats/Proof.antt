@@ -1,3 +1,4 @@
+use native.Mathlib.Omega.{arith}
 use borrow.Author.Needs.{needs}
 use Rattle.sync_layer.proofs.Turns.{mapping}
 use Prim.Native.Nat.{ℕ, _-_}
@@ -23,27 +24,27 @@ loop-holds c = search (needs, mapping)
 
 -- src/seats.rt:51:53
 mul-fresh-state : tie.Need-mul-fresh-state Inv-loop μ-loop
-mul-fresh-state c = search (needs, mapping)
+mul-fresh-state c = omega arith
 
 -- src/seats.rt:51:53
 shared-slice-read-fresh-state : tie.Need-shared-slice-read-fresh-state Inv-loop μ-loop
-shared-slice-read-fresh-state c = search (needs, mapping)
+shared-slice-read-fresh-state c = omega arith
 
 -- src/seats.rt:51:28
 fresh-state-requires : tie.Need-fresh-state-requires Inv-loop μ-loop
-fresh-state-requires c κs = search (needs, mapping)
+fresh-state-requires c κs = omega arith
 
 -- src/seats.rt:51:9
 set-seat-requires : tie.Need-set-seat-requires Inv-loop μ-loop
-set-seat-requires c κs = search (needs, mapping)
+set-seat-requires c κs = omega arith
 
 -- src/seats.rt:52:9
 add-i : tie.Need-add-i Inv-loop μ-loop
-add-i c = search (needs, mapping)
+add-i c = omega arith
 
 -- src/seats.rt:50:5
 loop-less : tie.Need-loop-less Inv-loop μ-loop
-loop-less c = search (needs, mapping)
+loop-less c = omega arith
 
 -- src/seats.rt:50:5
 loop-again : tie.Need-loop-again Inv-loop μ-loop
@@ -51,7 +52,7 @@ loop-again c = search (needs, mapping)
 
 -- src/seats.rt:45:1
 same-length : tie.Need-same-length Inv-loop μ-loop
-same-length c = search (needs, mapping)
+same-length c = omega arith
 
 -- src/seats.rt:45:1
 returns : tie.Need-returns Inv-loop μ-loop

@@ -1,3 +1,4 @@
+use native.Mathlib.Omega.{arith}
 use borrow.Author.Needs.{needs}
 use Rattle.sync_layer.proofs.Turns.{lowering}
 use Prim.Native.Nat.{ℕ, _-_}
@@ -22,19 +23,19 @@ loop-holds c = search (needs, lowering)
 
 -- src/seats.rt:100:13
 seat-at-requires : tie.Need-seat-at-requires Inv-loop μ-loop
-seat-at-requires c κs = search (needs, lowering)
+seat-at-requires c κs = omega arith
 
 -- src/seats.rt:101:9
 lower-of-requires : tie.Need-lower-of-requires Inv-loop μ-loop
-lower-of-requires c κs = search (needs, lowering)
+lower-of-requires c κs = omega arith
 
 -- src/seats.rt:102:9
 add-i : tie.Need-add-i Inv-loop μ-loop
-add-i c = search (needs, lowering)
+add-i c = omega arith
 
 -- src/seats.rt:99:5
 loop-less : tie.Need-loop-less Inv-loop μ-loop
-loop-less c = search (needs, lowering)
+loop-less c = omega arith
 
 -- src/seats.rt:99:5
 loop-again : tie.Need-loop-again Inv-loop μ-loop

@@ -1,3 +1,4 @@
+use native.Mathlib.Omega.{arith}
 use Rattle.sync_layer.proofs.Asking.{requests}
 use borrow.Author.Needs.{needs}
 use Rattle.sync_layer.proofs.serving.ask_refusal.Statement.{statement}
@@ -10,7 +11,7 @@ use Rattle.sync_layer.proofs.serving.gone_below.Reads as gone-below-rea
 
 -- src/serving.rt:42:8
 gone-below-requires : tie.Need-gone-below-requires
-gone-below-requires c κs = search needs
+gone-below-requires c κs = omega arith
 
 -- src/serving.rt:43:9
 returns : tie.Need-returns
@@ -18,15 +19,15 @@ returns c = search (needs, requests)
 
 -- src/serving.rt:45:32
 seat-at-requires : tie.Need-seat-at-requires
-seat-at-requires c κs = search needs
+seat-at-requires c κs = omega arith
 
 -- src/serving.rt:45:54
 add-input-refusal : tie.Need-add-input-refusal
-add-input-refusal c = search needs
+add-input-refusal c = omega arith
 
 -- src/serving.rt:45:5
 input-refusal-requires : tie.Need-input-refusal-requires
-input-refusal-requires c κs = search needs
+input-refusal-requires c κs = omega arith
 
 -- src/serving.rt:38:1
 returns-2 : tie.Need-returns-2

@@ -1,3 +1,4 @@
+use native.Mathlib.Omega.{arith}
 use Rattle.sync_layer.proofs.Asking.{lookups}
 use borrow.Author.Needs.{needs}
 use Rattle.sync_layer.proofs.serving.confirmed_frame.Statement.{statement}
@@ -12,7 +13,7 @@ returns c = search (needs, lookups)
 
 -- src/serving.rt:192:5
 frame-of-requires : tie.Need-frame-of-requires
-frame-of-requires c κs = search needs
+frame-of-requires c κs = omega arith
 
 -- src/serving.rt:186:1
 returns-2 : tie.Need-returns-2

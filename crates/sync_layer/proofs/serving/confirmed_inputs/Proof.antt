@@ -1,3 +1,4 @@
+use native.Mathlib.Omega.{arith}
 use Rattle.sync_layer.proofs.Asking.{founds}
 use borrow.Author.Needs.{needs}
 use Rattle.sync_layer.proofs.serving.confirmed_inputs.Statement.{statement}
@@ -10,7 +11,7 @@ use Rattle.sync_layer.proofs.serving.find_seats.Reads as find-seats-rea
 
 -- src/serving.rt:220:9
 count-of-requires : tie.Need-count-of-requires
-count-of-requires c κs = search needs
+count-of-requires c κs = omega arith
 
 -- src/serving.rt:221:9
 confirmed-refusal-requires : tie.Need-confirmed-refusal-requires
@@ -26,11 +27,11 @@ find-seats-requires c κs = search (needs, founds)
 
 -- src/serving.rt:214:1
 same-length : tie.Need-same-length
-same-length c = search needs
+same-length c = omega arith
 
 -- src/serving.rt:214:1
 same-length-2 : tie.Need-same-length-2
-same-length-2 c = search needs
+same-length-2 c = omega arith
 
 -- src/serving.rt:214:1
 returns-2 : tie.Need-returns-2

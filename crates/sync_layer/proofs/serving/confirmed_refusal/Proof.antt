@@ -1,3 +1,4 @@
+use native.Mathlib.Omega.{arith}
 use Rattle.sync_layer.proofs.Asking.{lookups}
 use borrow.Author.Needs.{needs}
 use Rattle.sync_layer.proofs.serving.confirmed_refusal.Statement.{statement}
@@ -9,7 +10,7 @@ use Rattle.sync_layer.proofs.serving.one_each.Reads as one-each-reads
 
 -- src/serving.rt:165:9
 one-each-requires : tie.Need-one-each-requires
-one-each-requires c κs = search needs
+one-each-requires c κs = omega arith
 
 -- src/serving.rt:166:9
 returns : tie.Need-returns

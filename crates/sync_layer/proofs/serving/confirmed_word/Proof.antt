@@ -1,3 +1,4 @@
+use native.Mathlib.Omega.{arith}
 use Rattle.sync_layer.proofs.Asking.{lookups}
 use borrow.Author.Needs.{needs}
 use Rattle.sync_layer.proofs.serving.confirmed_word.Statement.{statement}
@@ -11,19 +12,19 @@ returns c = search needs
 
 -- src/serving.rt:251:14
 mul-at : tie.Need-mul-at
-mul-at c = search needs
+mul-at c = omega arith
 
 -- src/serving.rt:251:14
 add-at : tie.Need-add-at
-add-at c = search needs
+add-at c = omega arith
 
 -- src/serving.rt:252:5
 mul-result : tie.Need-mul-result
-mul-result c = search needs
+mul-result c = omega arith
 
 -- src/serving.rt:252:5
 shared-slice-read-result : tie.Need-shared-slice-read-result
-shared-slice-read-result c = search needs
+shared-slice-read-result c = omega arith
 
 -- src/serving.rt:244:1
 returns-2 : tie.Need-returns-2

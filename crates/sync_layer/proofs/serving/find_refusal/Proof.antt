@@ -1,3 +1,4 @@
+use native.Mathlib.Omega.{arith}
 use Rattle.sync_layer.proofs.Asking.{lookups}
 use borrow.Author.Needs.{needs}
 use Rattle.sync_layer.proofs.serving.find_refusal.Statement.{statement}
@@ -10,11 +11,11 @@ use Rattle.sync_layer.proofs.serving.gone_below.Reads as gone-below-rea
 
 -- src/serving.rt:139:51
 sub-gone-below : tie.Need-sub-gone-below
-sub-gone-below c = search needs
+sub-gone-below c = omega arith
 
 -- src/serving.rt:139:8
 gone-below-requires : tie.Need-gone-below-requires
-gone-below-requires c κs = search needs
+gone-below-requires c κs = omega arith
 
 -- src/serving.rt:140:9
 returns : tie.Need-returns
@@ -22,11 +23,11 @@ returns c = search (needs, lookups)
 
 -- src/serving.rt:142:32
 seat-at-requires : tie.Need-seat-at-requires
-seat-at-requires c κs = search needs
+seat-at-requires c κs = omega arith
 
 -- src/serving.rt:142:5
 found-refusal-requires : tie.Need-found-refusal-requires
-found-refusal-requires c κs = search needs
+found-refusal-requires c κs = omega arith
 
 -- src/serving.rt:135:1
 returns-2 : tie.Need-returns-2

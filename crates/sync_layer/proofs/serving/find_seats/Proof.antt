@@ -1,3 +1,4 @@
+use native.Mathlib.Omega.{arith}
 use borrow.Author.Needs.{needs}
 use Rattle.sync_layer.proofs.Asking.{lookups}
 use Prim.Native.Nat.{ℕ, _-_}
@@ -19,11 +20,11 @@ abbrev μ-loop : tie.MeasureT-loop
 
 -- src/serving.rt:201:13
 cast-n : tie.Need-cast-n Inv-loop μ-loop
-cast-n c = search (needs, lookups)
+cast-n c = omega arith
 
 -- src/serving.rt:202:14
 sub-at : tie.Need-sub-at Inv-loop μ-loop
-sub-at c = search (needs, lookups)
+sub-at c = omega arith
 
 -- src/serving.rt:204:5
 loop-holds : tie.Need-loop-holds Inv-loop μ-loop
@@ -31,39 +32,39 @@ loop-holds c = search (needs, lookups)
 
 -- src/serving.rt:205:13
 gone-below-requires : tie.Need-gone-below-requires Inv-loop μ-loop
-gone-below-requires c κs = search (needs, lookups)
+gone-below-requires c κs = omega arith
 
 -- src/serving.rt:206:21
 confirmed-frame-requires : tie.Need-confirmed-frame-requires Inv-loop μ-loop
-confirmed-frame-requires c κs = search (needs, lookups)
+confirmed-frame-requires c κs = omega arith
 
 -- src/serving.rt:206:9
 mul-t14 : tie.Need-mul-t14 Inv-loop μ-loop
-mul-t14 c = search (needs, lookups)
+mul-t14 c = omega arith
 
 -- src/serving.rt:206:9
 slice-set-from-frames : tie.Need-slice-set-from-frames Inv-loop μ-loop
-slice-set-from-frames c = search (needs, lookups)
+slice-set-from-frames c = omega arith
 
 -- src/serving.rt:207:21
 confirmed-word-requires : tie.Need-confirmed-word-requires Inv-loop μ-loop
-confirmed-word-requires c κs = search (needs, lookups)
+confirmed-word-requires c κs = omega arith
 
 -- src/serving.rt:207:9
 mul-inputs : tie.Need-mul-inputs Inv-loop μ-loop
-mul-inputs c = search (needs, lookups)
+mul-inputs c = omega arith
 
 -- src/serving.rt:207:9
 slice-write-inputs : tie.Need-slice-write-inputs Inv-loop μ-loop
-slice-write-inputs c = search (needs, lookups)
+slice-write-inputs c = omega arith
 
 -- src/serving.rt:208:9
 add-i : tie.Need-add-i Inv-loop μ-loop
-add-i c = search (needs, lookups)
+add-i c = omega arith
 
 -- src/serving.rt:204:5
 loop-less : tie.Need-loop-less Inv-loop μ-loop
-loop-less c = search (needs, lookups)
+loop-less c = omega arith
 
 -- src/serving.rt:204:5
 loop-again : tie.Need-loop-again Inv-loop μ-loop
@@ -71,11 +72,11 @@ loop-again c = search (needs, lookups)
 
 -- src/serving.rt:195:1
 same-length : tie.Need-same-length Inv-loop μ-loop
-same-length c = search (needs, lookups)
+same-length c = omega arith
 
 -- src/serving.rt:195:1
 same-length-2 : tie.Need-same-length-2 Inv-loop μ-loop
-same-length-2 c = search (needs, lookups)
+same-length-2 c = omega arith
 
 -- src/serving.rt:195:1
 returns : tie.Need-returns Inv-loop μ-loop

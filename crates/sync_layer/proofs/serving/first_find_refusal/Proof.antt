@@ -1,3 +1,4 @@
+use native.Mathlib.Omega.{arith}
 use borrow.Author.Needs.{needs}
 use Rattle.sync_layer.proofs.Asking.{lookups}
 use Prim.Native.Nat.{ℕ, _-_}
@@ -17,7 +18,7 @@ abbrev μ-loop : tie.MeasureT-loop
 
 -- src/serving.rt:149:13
 cast-n : tie.Need-cast-n Inv-loop μ-loop
-cast-n c = search (needs, lookups)
+cast-n c = omega arith
 
 -- src/serving.rt:151:5
 loop-holds : tie.Need-loop-holds Inv-loop μ-loop
@@ -25,7 +26,7 @@ loop-holds c = search (needs, lookups)
 
 -- src/serving.rt:152:13
 find-refusal-requires : tie.Need-find-refusal-requires Inv-loop μ-loop
-find-refusal-requires c κs = search (needs, lookups)
+find-refusal-requires c κs = search needs
 
 -- src/serving.rt:154:13
 returns : tie.Need-returns Inv-loop μ-loop
@@ -33,11 +34,11 @@ returns c = search (needs, lookups)
 
 -- src/serving.rt:156:9
 add-i : tie.Need-add-i Inv-loop μ-loop
-add-i c = search (needs, lookups)
+add-i c = omega arith
 
 -- src/serving.rt:151:5
 loop-less : tie.Need-loop-less Inv-loop μ-loop
-loop-less c = search (needs, lookups)
+loop-less c = omega arith
 
 -- src/serving.rt:151:5
 loop-again : tie.Need-loop-again Inv-loop μ-loop

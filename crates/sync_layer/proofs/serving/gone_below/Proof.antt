@@ -1,3 +1,4 @@
+use native.Mathlib.Omega.{arith}
 use mir.Facts.{toZ-ofZ}
 use Rattle.sync_layer.proofs.Asking.{requests, gone-marked}
 use borrow.Author.Needs.{needs}
@@ -9,11 +10,11 @@ use Rattle.frame_info.proofs.count_of.Reads as count-of-reads
 
 -- src/serving.rt:22:8
 shared-slice-read-if1 : tie.Need-shared-slice-read-if1
-shared-slice-read-if1 c = search needs
+shared-slice-read-if1 c = omega arith
 
 -- src/serving.rt:23:25
 mul-count-of : tie.Need-mul-count-of
-mul-count-of c = search needs
+mul-count-of c = omega arith
 
 -- src/serving.rt:23:25
 shared-slice-copy-out-count-of : tie.Need-shared-slice-copy-out-count-of
@@ -21,7 +22,7 @@ shared-slice-copy-out-count-of c = search needs
 
 -- src/serving.rt:23:16
 count-of-requires : tie.Need-count-of-requires
-count-of-requires c κs = search needs
+count-of-requires c κs = omega arith
 
 -- src/serving.rt:23:9
 returns : tie.Need-returns

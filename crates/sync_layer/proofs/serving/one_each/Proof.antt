@@ -1,3 +1,4 @@
+use native.Mathlib.Omega.{arith}
 use Rattle.sync_layer.proofs.Asking.{requests}
 use borrow.Author.Needs.{needs}
 use Rattle.sync_layer.proofs.serving.one_each.Statement.{statement}
@@ -7,7 +8,7 @@ use Rattle.sync_layer.proofs.serving.one_each.Lts as lts
 
 -- src/serving.rt:31:13
 cast-n : tie.Need-cast-n
-cast-n c = search needs
+cast-n c = omega arith
 
 -- src/serving.rt:33:9
 returns : tie.Need-returns

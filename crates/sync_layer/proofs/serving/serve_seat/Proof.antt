@@ -1,3 +1,4 @@
+use native.Mathlib.Omega.{arith}
 use Rattle.sync_layer.proofs.Asking.{servings, seat-here, word-here, standing-here}
 use borrow.Author.Needs.{needs}
 use Rattle.sync_layer.proofs.serving.serve_seat.Statement.{statement}
@@ -11,19 +12,19 @@ use Rattle.sync_layer.proofs.serving.standing_of.Reads as standing-of-r
 
 -- src/serving.rt:90:9
 mul-inputs : tie.Need-mul-inputs
-mul-inputs c = search needs
+mul-inputs c = omega arith
 
 -- src/serving.rt:90:9
 slice-write-inputs : tie.Need-slice-write-inputs
-slice-write-inputs c = search needs
+slice-write-inputs c = omega arith
 
 -- src/serving.rt:91:9
 mul-statuses : tie.Need-mul-statuses
-mul-statuses c = search needs
+mul-statuses c = omega arith
 
 -- src/serving.rt:91:9
 slice-write-statuses : tie.Need-slice-write-statuses
-slice-write-statuses c = search needs
+slice-write-statuses c = omega arith
 
 -- src/serving.rt:92:9
 same-length : tie.Need-same-length
@@ -39,11 +40,11 @@ returns c = search (needs, servings)
 
 -- src/serving.rt:94:9
 seat-at-requires : tie.Need-seat-at-requires
-seat-at-requires c κs = search needs
+seat-at-requires c κs = omega arith
 
 -- src/serving.rt:95:41
 mul-ask : tie.Need-mul-ask
-mul-ask c = search needs
+mul-ask c = omega arith
 
 -- src/serving.rt:95:9
 ask-requires : tie.Need-ask-requires
@@ -51,31 +52,31 @@ ask-requires c κs = search (needs, servings)
 
 -- src/serving.rt:97:5
 set-seat-requires : tie.Need-set-seat-requires
-set-seat-requires c κs = search needs
+set-seat-requires c κs = omega arith
 
 -- src/serving.rt:98:5
 mul-inputs-2 : tie.Need-mul-inputs-2
-mul-inputs-2 c = search needs
+mul-inputs-2 c = omega arith
 
 -- src/serving.rt:98:5
 slice-write-inputs-2 : tie.Need-slice-write-inputs-2
-slice-write-inputs-2 c = search needs
+slice-write-inputs-2 c = omega arith
 
 -- src/serving.rt:99:22
 standing-of-requires : tie.Need-standing-of-requires
-standing-of-requires c κs = search needs
+standing-of-requires c κs = omega arith
 
 -- src/serving.rt:99:5
 mul-statuses-2 : tie.Need-mul-statuses-2
-mul-statuses-2 c = search needs
+mul-statuses-2 c = omega arith
 
 -- src/serving.rt:99:5
 slice-write-statuses-2 : tie.Need-slice-write-statuses-2
-slice-write-statuses-2 c = search needs
+slice-write-statuses-2 c = omega arith
 
 -- src/serving.rt:83:1
 same-length-3 : tie.Need-same-length-3
-same-length-3 c = search needs
+same-length-3 c = omega arith
 
 -- src/serving.rt:83:1
 same-length-4 : tie.Need-same-length-4

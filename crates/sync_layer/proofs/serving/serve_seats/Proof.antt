@@ -19,7 +19,7 @@ abbrev μ-loop : tie.MeasureT-loop
 
 -- src/serving.rt:109:13
 cast-n : tie.Need-cast-n Inv-loop μ-loop
-cast-n c = search (needs, servings)
+cast-n c = omega arith
 
 -- src/serving.rt:111:5
 loop-holds : tie.Need-loop-holds Inv-loop μ-loop
@@ -27,7 +27,7 @@ loop-holds c = search (needs, servings)
 
 -- src/serving.rt:112:13
 gone-below-requires : tie.Need-gone-below-requires Inv-loop μ-loop
-gone-below-requires c κs = search (needs, servings)
+gone-below-requires c κs = omega arith
 
 -- src/serving.rt:113:9
 serve-seat-requires : tie.Need-serve-seat-requires Inv-loop μ-loop
@@ -38,11 +38,11 @@ serve-seat-requires c κs =
 
 -- src/serving.rt:114:9
 add-i : tie.Need-add-i Inv-loop μ-loop
-add-i c = search (needs, servings)
+add-i c = omega arith
 
 -- src/serving.rt:111:5
 loop-less : tie.Need-loop-less Inv-loop μ-loop
-loop-less c = search (needs, servings)
+loop-less c = omega arith
 
 -- src/serving.rt:111:5
 loop-again : tie.Need-loop-again Inv-loop μ-loop
@@ -50,15 +50,15 @@ loop-again c = search (needs, servings)
 
 -- src/serving.rt:102:1
 same-length : tie.Need-same-length Inv-loop μ-loop
-same-length c = search (needs, servings)
+same-length c = omega arith
 
 -- src/serving.rt:102:1
 same-length-2 : tie.Need-same-length-2 Inv-loop μ-loop
-same-length-2 c = search (needs, servings)
+same-length-2 c = omega arith
 
 -- src/serving.rt:102:1
 same-length-3 : tie.Need-same-length-3 Inv-loop μ-loop
-same-length-3 c = search (needs, servings)
+same-length-3 c = omega arith
 
 -- src/serving.rt:102:1
 returns : tie.Need-returns Inv-loop μ-loop

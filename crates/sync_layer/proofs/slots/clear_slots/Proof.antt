@@ -1,3 +1,4 @@
+use native.Mathlib.Omega.{arith}
 use borrow.Author.Needs.{needs}
 use Rattle.sync_layer.proofs.Slotting.{clearing}
 use Prim.Native.Nat.{ℕ, _-_}
@@ -19,23 +20,23 @@ loop-holds c = search (needs, clearing)
 
 -- src/slots.rt:60:18
 mul-at : tie.Need-mul-at Inv-loop μ-loop
-mul-at c = search (needs, clearing)
+mul-at c = omega arith
 
 -- src/slots.rt:61:9
 mul-slots : tie.Need-mul-slots Inv-loop μ-loop
-mul-slots c = search (needs, clearing)
+mul-slots c = omega arith
 
 -- src/slots.rt:61:9
 slice-write-slots : tie.Need-slice-write-slots Inv-loop μ-loop
-slice-write-slots c = search (needs, clearing)
+slice-write-slots c = omega arith
 
 -- src/slots.rt:62:9
 add-i : tie.Need-add-i Inv-loop μ-loop
-add-i c = search (needs, clearing)
+add-i c = omega arith
 
 -- src/slots.rt:59:5
 loop-less : tie.Need-loop-less Inv-loop μ-loop
-loop-less c = search (needs, clearing)
+loop-less c = omega arith
 
 -- src/slots.rt:59:5
 loop-again : tie.Need-loop-again Inv-loop μ-loop
@@ -43,7 +44,7 @@ loop-again c = search (needs, clearing)
 
 -- src/slots.rt:54:1
 same-length : tie.Need-same-length Inv-loop μ-loop
-same-length c = search (needs, clearing)
+same-length c = omega arith
 
 -- src/slots.rt:54:1
 returns : tie.Need-returns Inv-loop μ-loop

@@ -1,3 +1,4 @@
+use native.Mathlib.Omega.{arith}
 use Rattle.sync_layer.proofs.Slotting.{slotting}
 use borrow.Author.Needs.{needs}
 use Rattle.sync_layer.proofs.slots.count_in.Statement.{statement}
@@ -8,15 +9,15 @@ use Rattle.sync_layer.proofs.slots.slot_of.Reads as slot-of-reads
 
 -- src/slots.rt:37:9
 slot-of-requires : tie.Need-slot-of-requires
-slot-of-requires c κs = search needs
+slot-of-requires c κs = omega arith
 
 -- src/slots.rt:38:5
 mul-result : tie.Need-mul-result
-mul-result c = search needs
+mul-result c = omega arith
 
 -- src/slots.rt:38:5
 shared-slice-read-result : tie.Need-shared-slice-read-result
-shared-slice-read-result c = search needs
+shared-slice-read-result c = omega arith
 
 -- src/slots.rt:33:1
 returns : tie.Need-returns

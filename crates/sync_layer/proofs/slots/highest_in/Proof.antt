@@ -1,3 +1,4 @@
+use native.Mathlib.Omega.{arith}
 use borrow.Author.Needs.{needs}
 use Rattle.sync_layer.proofs.Slotting.{heights}
 use Prim.Native.Nat.{ℕ, _-_}
@@ -21,31 +22,31 @@ loop-holds c = search (needs, heights)
 
 -- src/slots.rt:89:18
 mul-at : tie.Need-mul-at Inv-loop μ-loop
-mul-at c = search (needs, heights)
+mul-at c = omega arith
 
 -- src/slots.rt:90:58
 mul-within-both : tie.Need-mul-within-both Inv-loop μ-loop
-mul-within-both c = search (needs, heights)
+mul-within-both c = omega arith
 
 -- src/slots.rt:90:58
 shared-slice-read-within-both : tie.Need-shared-slice-read-within-both Inv-loop μ-loop
-shared-slice-read-within-both c = search (needs, heights)
+shared-slice-read-within-both c = omega arith
 
 -- src/slots.rt:90:35
 within-both-requires : tie.Need-within-both-requires Inv-loop μ-loop
-within-both-requires c κs = search (needs, heights)
+within-both-requires c κs = omega arith
 
 -- src/slots.rt:90:9
 higher-requires : tie.Need-higher-requires Inv-loop μ-loop
-higher-requires c κs = search (needs, heights)
+higher-requires c κs = omega arith
 
 -- src/slots.rt:91:9
 add-i : tie.Need-add-i Inv-loop μ-loop
-add-i c = search (needs, heights)
+add-i c = omega arith
 
 -- src/slots.rt:88:5
 loop-less : tie.Need-loop-less Inv-loop μ-loop
-loop-less c = search (needs, heights)
+loop-less c = omega arith
 
 -- src/slots.rt:88:5
 loop-again : tie.Need-loop-again Inv-loop μ-loop

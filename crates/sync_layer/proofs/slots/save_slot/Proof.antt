@@ -10,27 +10,27 @@ use Rattle.sync_layer.proofs.slots.slot_of.Reads as slot-of-reads
 
 -- src/slots.rt:25:9
 slot-of-requires : tie.Need-slot-of-requires
-slot-of-requires c κs = search needs
+slot-of-requires c κs = omega arith
 
 -- src/slots.rt:26:17
 add-slots : tie.Need-add-slots
-add-slots c = search needs
+add-slots c = omega arith
 
 -- src/slots.rt:26:5
 mul-slots : tie.Need-mul-slots
-mul-slots c = search needs
+mul-slots c = omega arith
 
 -- src/slots.rt:26:5
 slice-write-slots : tie.Need-slice-write-slots
-slice-write-slots c = search needs
+slice-write-slots c = omega arith
 
 -- src/slots.rt:27:11
 add-slots-2 : tie.Need-add-slots-2
-add-slots-2 c = search needs
+add-slots-2 c = omega arith
 
 -- src/slots.rt:27:5
 mul-slots-2 : tie.Need-mul-slots-2
-mul-slots-2 c = search needs
+mul-slots-2 c = omega arith
 
 -- src/slots.rt:27:5
 slice-write-slots-2 : tie.Need-slice-write-slots-2
@@ -38,11 +38,11 @@ slice-write-slots-2 c = simp length-set (omega arith)
 
 -- src/slots.rt:28:11
 add-slots-3 : tie.Need-add-slots-3
-add-slots-3 c = search needs
+add-slots-3 c = omega arith
 
 -- src/slots.rt:28:5
 mul-slots-3 : tie.Need-mul-slots-3
-mul-slots-3 c = search needs
+mul-slots-3 c = omega arith
 
 -- src/slots.rt:28:5
 slice-write-slots-3 : tie.Need-slice-write-slots-3
@@ -50,11 +50,11 @@ slice-write-slots-3 c = simp length-set (omega arith)
 
 -- src/slots.rt:29:11
 add-slots-4 : tie.Need-add-slots-4
-add-slots-4 c = search needs
+add-slots-4 c = omega arith
 
 -- src/slots.rt:29:5
 mul-slots-4 : tie.Need-mul-slots-4
-mul-slots-4 c = search needs
+mul-slots-4 c = omega arith
 
 -- src/slots.rt:29:5
 slice-write-slots-4 : tie.Need-slice-write-slots-4

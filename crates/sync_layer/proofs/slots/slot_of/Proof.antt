@@ -2,7 +2,6 @@ use native.Mathlib.Omega.{arith}
 use mathlib.Core.Path.{refl}
 use Prim.Native.Nat.{_+_}
 use native.Mathlib.Nat.{mod-lt}
-use borrow.Author.Needs.{needs}
 use Rattle.sync_layer.proofs.slots.slot_of.Statement.{statement}
 use Rattle.sync_layer.proofs.slots.slot_of.Tie as tie
 use Rattle.sync_layer.proofs.slots.slot_of.Reads as reads
@@ -10,11 +9,11 @@ use Rattle.sync_layer.proofs.slots.slot_of.Lts as lts
 
 -- src/slots.rt:18:15
 add-result : tie.Need-add-result
-add-result c = search needs
+add-result c = omega arith
 
 -- src/slots.rt:18:6
 rem-result : tie.Need-rem-result
-rem-result c = search needs
+rem-result c = omega arith
 
 -- src/slots.rt:18:5
 cast-result : tie.Need-cast-result
