@@ -23,51 +23,11 @@ use Rattle.desk.specs.Desk.{Desk, Setup, setupState, setupOf, queueOf, knownOf,
 use Rattle.desk.specs.Calls.{setupAnswer, settleOf, advanceOf}
 use Rattle.desk.specs.Runs.{Call, take-call, settle-call, advance-call, show-call, log-call, after, runFrom, run, Fit}
 use Rattle.desk.specs.Whole as whole
+use Rattle.desk.proofs.Guessing.{run-predictor}
 use Rattle.agreement.specs.Statement.{runOf, acceptedOf}
 use Rattle.agreement.proofs.Stored.{stored-few}
 use Rattle.agreement.proofs.Run.{setup-state}
 use Rattle.agreement.proofs.Claims.{known, ours-steady}
-
--- The predictor is never changed ------------------------------------------------------------------------------------------------------
-
-module _ (step : Console → List ℕ → Console) (p : ℕ → ℕ) where
-  replay-predictor : (k : ℕ) (d : Desk) → replay step p k d .state .predictor ≡ d .state .predictor
-  unfolding replay oneFrame
-  replay-predictor zero d = refl
-  replay-predictor (suc k) d = replay-predictor k (oneFrame step p d)
-
-  corrected-predictor : (d : Desk) → corrected step p d .state .predictor ≡ d .state .predictor
-  unfolding corrected resetAll load
-  corrected-predictor d =
-      ⊎-elim
-      (λ a. simp (a .1))
-      (λ a. simp (a .1) (replay-predictor (d .state .current - (mismatchOf d - 1)) (resetAll (load d (mismatchOf d - 1)))))
-      (split-eqb (mismatchOf d) 0)
-
-  confirm-predictor : (d : Desk) → confirm d .state .predictor ≡ d .state .predictor
-  unfolding confirm discardAll
-  confirm-predictor d =
-      ⊎-elim
-      (λ a. simp (a .1))
-      (λ a. ⊎-elim (λ b. simp (a .1, b .1)) (λ b. simp (a .1, b .1)) (split-eqb (min (knownOf d - 1) (d .state .current)) 0))
-      (split-eqb (knownOf d) 0)
-
-  settle-predictor : (d : Desk) → settle step p d .state .predictor ≡ d .state .predictor
-  unfolding settle
-  settle-predictor d = confirm-predictor (corrected step p d) ∙ corrected-predictor d
-
-  after-predictor : (d : Desk) (x : Call) → after step p d x .state .predictor ≡ d .state .predictor
-  unfolding after take taken advance oneFrame
-  after-predictor d (take-call s f w) = ⊎-elim (λ a. simp (a .1)) (λ a. simp (a .1)) (split-eqb (takeAnswer d s (countOf f)) 0)
-  after-predictor d settle-call = settle-predictor d
-  after-predictor d advance-call = ⊎-elim (λ a. simp (a .1) (settle-predictor d)) (λ a. simp (a .1)) (split-eqb (advanceAnswer d) 0)
-  after-predictor d (show-call f) = refl
-  after-predictor d (log-call f room) = refl
-
-  run-predictor : (l : List Call) (d : Desk) → runFrom step p d l .state .predictor ≡ d .state .predictor
-  unfolding runFrom
-  run-predictor [] d = refl
-  run-predictor (x ∷ l) d = run-predictor l (after step p d x) ∙ after-predictor d x
 
 module _ (u : Setup) (h : Fit u) (l : List Call) where
   abbrev d : Desk

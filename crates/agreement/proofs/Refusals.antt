@@ -9,6 +9,7 @@ use mathlib.Core.Bool.{Bool, true, false}
 use lib.Dec.{ltb, leb, eqb}
 use borrow.Author.Tests.{eq-eqb, ne-eqb, le-ltb, lt-leb}
 use Rattle.frame_info.specs.Choice.{pick}
+use Rattle.frame_info.proofs.Picked.{picked}
 use Rattle.frame_info.specs.Frame.{lastCount, countOf}
 use Rattle.frame_info.proofs.Split.{split-eqb}
 use Rattle.console.specs.declared.Console.{Console}
@@ -137,27 +138,23 @@ module _ (step : Console → List ℕ → Console) (p : ℕ → ℕ) (n L : ℕ)
   call-never d s h (log-call f room) = refl
 
 -- what a call answers of itself is none of 8 to 15
-other-pick : (t : Bool) {a b : ℕ} → Other a → Other b → Other (pick t a b)
-other-pick true x y = x
-other-pick false x y = y
-
 other-show : (d : Desk) (n : ℕ) → Other (showAnswer d n)
 unfolding showAnswer
-other-show d n = other-pick (eqb n 0) (inl (omega arith)) (other-pick (isSettled d (n - 1)) (inl (omega arith)) (inr (omega arith)))
+other-show d n = picked Other (eqb n 0) _ _ (inl (omega arith)) (picked Other (isSettled d (n - 1)) _ _ (inl (omega arith)) (inr (omega arith)))
 
 pub call-other : (d : Desk) (x : Call) → Other (answerOf d x)
 unfolding answerOf takeAnswer advanceAnswer logAnswer
 call-other d (take-call s f w) =
-    other-pick (leb (d .state .seats) s) (inl (omega arith))
-    (other-pick (eqb (countOf f) 0) (inl (omega arith))
-    (other-pick (ltb lastCount (countOf f)) (inl (omega arith))
-    (other-pick (eqb (countOf f - 1) (queueOf d s .user)) (other-pick (overfull (queueOf d s) (countOf f)) (inl (omega arith)) (inl (omega arith))) (inl (omega arith)))))
+    picked Other (leb (d .state .seats) s) _ _ (inl (omega arith))
+    (picked Other (eqb (countOf f) 0) _ _ (inl (omega arith))
+    (picked Other (ltb lastCount (countOf f)) _ _ (inl (omega arith))
+    (picked Other (eqb (countOf f - 1) (queueOf d s .user)) _ _ (picked Other (overfull (queueOf d s) (countOf f)) _ _ (inl (omega arith)) (inl (omega arith))) (inl (omega arith)))))
 call-other d settle-call = inl (omega arith)
 call-other d advance-call =
-    other-pick (leb lastCount (d .state .current + 1)) (inl (omega arith))
-    (other-pick (ltb (d .state .limit + knownOf d) (d .state .current + 1)) (inl (omega arith)) (inl (omega arith)))
+    picked Other (leb lastCount (d .state .current + 1)) _ _ (inl (omega arith))
+    (picked Other (ltb (d .state .limit + knownOf d) (d .state .current + 1)) _ _ (inl (omega arith)) (inl (omega arith)))
 call-other d (show-call f) = other-show d (countOf f)
 call-other d (log-call f room) =
-    other-pick (eqb (showAnswer d (countOf f)) 0)
-    (other-pick (ltb room (lineLength (d .state .seats))) (inr (omega arith)) (inl (omega arith)))
+    picked Other (eqb (showAnswer d (countOf f)) 0) _ _
+    (picked Other (ltb room (lineLength (d .state .seats))) _ _ (inr (omega arith)) (inl (omega arith)))
     (other-show d (countOf f))

@@ -23,7 +23,7 @@ pub struct Told {
 }
 
 // layer LIMIT PREDICTOR DELAY..
-pub fn open(
+fn open(
     count: u32,
     args: &[u64],
     seats: &mut [u32],
@@ -51,7 +51,7 @@ fn input_of(args: &[u64]) -> PlayerInput
 }
 
 // l.local SEAT FRAME WORD
-pub fn local(
+fn local(
     args: &[u64],
     seats: &mut [u32],
     words: &mut [u32],
@@ -69,7 +69,7 @@ pub fn local(
 }
 
 // l.remote SEAT FRAME WORD
-pub fn remote(
+fn remote(
     args: &[u64],
     seats: &mut [u32],
     words: &mut [u32],
@@ -87,7 +87,7 @@ pub fn remote(
 }
 
 // l.delay SEAT DELAY
-pub fn delay(
+fn delay(
     args: &[u64],
     seats: &mut [u32],
     words: &[u32],
@@ -105,7 +105,7 @@ pub fn delay(
 }
 
 // l.reset
-pub fn reset(seats: &mut [u32], layer: LayerState, out: &mut [u8], at: usize) -> Told
+fn reset(seats: &mut [u32], layer: LayerState, out: &mut [u8], at: usize) -> Told
     requires { ⌜ Seated layer (now seats) × (at + 192 ≤ length (now out)) ⌝ }
     ensures { λ r. ⌜ Seated (r .layer) (now (seats .exit)) × (r .at ≤ at + 191) ⌝ }
 {
@@ -115,13 +115,7 @@ pub fn reset(seats: &mut [u32], layer: LayerState, out: &mut [u8], at: usize) ->
 }
 
 // l.confirm FRAME FLAG
-pub fn confirm(
-    args: &[u64],
-    seats: &mut [u32],
-    layer: LayerState,
-    out: &mut [u8],
-    at: usize,
-) -> Told
+fn confirm(args: &[u64], seats: &mut [u32], layer: LayerState, out: &mut [u8], at: usize) -> Told
     requires { ⌜ Seated layer (now seats) × (2048 ≤ length (now args)) × (at + 192 ≤ length (now out)) ⌝ }
     ensures { λ r. ⌜ Seated (r .layer) (now (seats .exit)) × (r .at ≤ at + 191) ⌝ }
 {
@@ -137,7 +131,7 @@ pub fn confirm(
 }
 
 // l.save HEAD KIND SEAL
-pub fn save(args: &[u64], slots: &mut [u32], layer: LayerState, out: &mut [u8], at: usize) -> Told
+fn save(args: &[u64], slots: &mut [u32], layer: LayerState, out: &mut [u8], at: usize) -> Told
     requires { ⌜ Ready layer × SlotRoom (now slots) × (2048 ≤ length (now args)) × (at + 192 ≤ length (now out)) ⌝ }
     ensures { λ r. ⌜ Ready (r .layer) × (r .layer .seats ≡ layer .seats) × (r .at ≤ at + 191) ⌝ }
 {
@@ -155,7 +149,7 @@ pub fn save(args: &[u64], slots: &mut [u32], layer: LayerState, out: &mut [u8], 
 }
 
 // l.load FRAME
-pub fn load(args: &[u64], slots: &[u32], layer: LayerState, out: &mut [u8], at: usize) -> Told
+fn load(args: &[u64], slots: &[u32], layer: LayerState, out: &mut [u8], at: usize) -> Told
     requires { ⌜ Ready layer × SlotRoom (now slots) × (2048 ≤ length (now args)) × (at + 192 ≤ length (now out)) ⌝ }
     ensures { λ r. ⌜ Ready (r .layer) × (r .layer .seats ≡ layer .seats) × (r .at ≤ at + 191) ⌝ }
 {
@@ -170,7 +164,7 @@ pub fn load(args: &[u64], slots: &[u32], layer: LayerState, out: &mut [u8], at: 
 }
 
 // l.advance
-pub fn advance(layer: LayerState, out: &mut [u8], at: usize) -> Told
+fn advance(layer: LayerState, out: &mut [u8], at: usize) -> Told
     requires { ⌜ Ready layer × (at + 192 ≤ length (now out)) ⌝ }
     ensures { λ r. ⌜ Ready (r .layer) × (r .layer .seats ≡ layer .seats) × (r .at ≤ at + 191) ⌝ }
 {
@@ -197,7 +191,7 @@ fn seat_frames() -> [i32; 8]
 }
 
 // l.request STATUS..
-pub fn request(
+fn request(
     count: u32,
     args: &[u64],
     seats: &mut [u32],
@@ -231,7 +225,7 @@ pub fn request(
 }
 
 // l.confirmed FRAME STATUS..; the layer stays as it is.
-pub fn confirmed(
+fn confirmed(
     count: u32,
     args: &[u64],
     seats: &[u32],
@@ -264,7 +258,7 @@ pub fn confirmed(
 }
 
 // l.consistent; the layer stays as it is, here and in all that follow.
-pub fn consistent(seats: &[u32], layer: LayerState, out: &mut [u8], at: usize) -> usize
+fn consistent(seats: &[u32], layer: LayerState, out: &mut [u8], at: usize) -> usize
     requires { ⌜ Seated layer (now seats) × (at + 192 ≤ length (now out)) ⌝ }
     ensures { λ r. ⌜ r ≤ at + 191 ⌝ }
 {
@@ -273,7 +267,7 @@ pub fn consistent(seats: &[u32], layer: LayerState, out: &mut [u8], at: usize) -
 }
 
 // l.saved FRAME
-pub fn saved(args: &[u64], slots: &[u32], layer: LayerState, out: &mut [u8], at: usize) -> usize
+fn saved(args: &[u64], slots: &[u32], layer: LayerState, out: &mut [u8], at: usize) -> usize
     requires { ⌜ Ready layer × SlotRoom (now slots) × (2048 ≤ length (now args)) × (at + 192 ≤ length (now out)) ⌝ }
     ensures { λ r. ⌜ r ≤ at + 191 ⌝ }
 {
@@ -283,7 +277,7 @@ pub fn saved(args: &[u64], slots: &[u32], layer: LayerState, out: &mut [u8], at:
 }
 
 // l.latest START END
-pub fn latest(args: &[u64], slots: &[u32], layer: LayerState, out: &mut [u8], at: usize) -> usize
+fn latest(args: &[u64], slots: &[u32], layer: LayerState, out: &mut [u8], at: usize) -> usize
     requires { ⌜ Ready layer × SlotRoom (now slots) × (2048 ≤ length (now args)) × (at + 192 ≤ length (now out)) ⌝ }
     ensures { λ r. ⌜ r ≤ at + 191 ⌝ }
 {
@@ -293,7 +287,7 @@ pub fn latest(args: &[u64], slots: &[u32], layer: LayerState, out: &mut [u8], at
 }
 
 // l.now
-pub fn now(layer: LayerState, out: &mut [u8], at: usize) -> usize
+fn now(layer: LayerState, out: &mut [u8], at: usize) -> usize
     requires { ⌜ Ready layer × (at + 192 ≤ length (now out)) ⌝ }
     ensures { λ r. ⌜ r ≤ at + 191 ⌝ }
 {

@@ -25,7 +25,7 @@ pub struct Told {
     pub at: usize,
 }
 
-pub fn open(args: &[u64], out: &mut [u8], at: usize) -> Told
+fn open(args: &[u64], out: &mut [u8], at: usize) -> Told
     requires { ⌜ (2048 ≤ length (now args)) × (at + 64 ≤ length (now out)) ⌝ }
     ensures { λ r. ⌜ (r .held ≡ queue.opened (now (args .entry))) × (r .at ≡ at + length (queue.openedText (now (args .entry))))
         × (now (out .exit) ≡ sets (now (out .entry)) at (queue.openedText (now (args .entry)))) × (r .at ≤ at + 63) ⌝ }
@@ -42,7 +42,7 @@ pub fn open(args: &[u64], out: &mut [u8], at: usize) -> Told
     }
 }
 
-pub fn add(args: &[u64], words: &mut [u32], held: Held, out: &mut [u8], at: usize) -> Told
+fn add(args: &[u64], words: &mut [u32], held: Held, out: &mut [u8], at: usize) -> Told
     requires { ⌜ (2048 ≤ length (now args)) × (at + 64 ≤ length (now out)) × Whole (now words) 0 (held .state) ⌝ }
     ensures { λ r. ⌜ (r .held ≡ queue.added (now (args .entry)) (now (words .entry)) held)
         × (now (words .exit) ≡ queue.addedWords (now (args .entry)) (now (words .entry)) held)
@@ -63,7 +63,7 @@ pub fn add(args: &[u64], words: &mut [u32], held: Held, out: &mut [u8], at: usiz
     }
 }
 
-pub fn request(args: &[u64], words: &[u32], held: Held, out: &mut [u8], at: usize) -> Told
+fn request(args: &[u64], words: &[u32], held: Held, out: &mut [u8], at: usize) -> Told
     requires { ⌜ (2048 ≤ length (now args)) × (at + 64 ≤ length (now out)) × Whole (now words) 0 (held .state) ⌝ }
     ensures { λ r. ⌜ (r .held ≡ queue.requested (now (args .entry)) (now (words .entry)) held)
         × (r .at ≡ at + length (queue.requestedText (now (args .entry)) (now (words .entry)) held))
@@ -84,7 +84,7 @@ pub fn request(args: &[u64], words: &[u32], held: Held, out: &mut [u8], at: usiz
 }
 
 // The queue stays as it is.
-pub fn confirmed(args: &[u64], words: &[u32], held: Held, out: &mut [u8], at: usize) -> usize
+fn confirmed(args: &[u64], words: &[u32], held: Held, out: &mut [u8], at: usize) -> usize
     requires { ⌜ (2048 ≤ length (now args)) × (at + 64 ≤ length (now out)) × Whole (now words) 0 (held .state) ⌝ }
     ensures { λ r. ⌜ (r ≡ at + length (queue.confirmedText (now (args .entry)) (now (words .entry)) held))
         × (now (out .exit) ≡ sets (now (out .entry)) at (queue.confirmedText (now (args .entry)) (now (words .entry)) held)) × (r ≤ at + 63) ⌝ }
@@ -96,7 +96,7 @@ pub fn confirmed(args: &[u64], words: &[u32], held: Held, out: &mut [u8], at: us
     tell_word(out, at, a.no, input.input)
 }
 
-pub fn discard(args: &[u64], held: Held, out: &mut [u8], at: usize) -> Told
+fn discard(args: &[u64], held: Held, out: &mut [u8], at: usize) -> Told
     requires { ⌜ (2048 ≤ length (now args)) × (at + 64 ≤ length (now out)) ⌝ }
     ensures { λ r. ⌜ (r .held ≡ queue.discarded (now (args .entry)) held)
         × (r .at ≡ at + length (queue.discardedText (now (args .entry)) held))
@@ -116,7 +116,7 @@ pub fn discard(args: &[u64], held: Held, out: &mut [u8], at: usize) -> Told
     }
 }
 
-pub fn reset(held: Held, out: &mut [u8], at: usize) -> Told
+fn reset(held: Held, out: &mut [u8], at: usize) -> Told
     requires { ⌜ at + 64 ≤ length (now out) ⌝ }
     ensures { λ r. ⌜ (r .held ≡ queue.cleared held) × (r .at ≡ at + length (queue.clearedText))
         × (now (out .exit) ≡ sets (now (out .entry)) at (queue.clearedText)) × (r .at ≤ at + 63) ⌝ }
@@ -133,7 +133,7 @@ pub fn reset(held: Held, out: &mut [u8], at: usize) -> Told
     }
 }
 
-pub fn delay(args: &[u64], words: &[u32], held: Held, out: &mut [u8], at: usize) -> Told
+fn delay(args: &[u64], words: &[u32], held: Held, out: &mut [u8], at: usize) -> Told
     requires { ⌜ (2048 ≤ length (now args)) × (at + 64 ≤ length (now out)) × Whole (now words) 0 (held .state) ⌝ }
     ensures { λ r. ⌜ (r .held ≡ queue.delayed (now (args .entry)) (now (words .entry)) held)
         × (r .at ≡ at + length (queue.delayedText (now (args .entry)) (now (words .entry)) held))
@@ -153,7 +153,7 @@ pub fn delay(args: &[u64], words: &[u32], held: Held, out: &mut [u8], at: usize)
 }
 
 // The queue stays as it is.
-pub fn wrong(held: Held, out: &mut [u8], at: usize) -> usize
+fn wrong(held: Held, out: &mut [u8], at: usize) -> usize
     requires { ⌜ at + 64 ≤ length (now out) ⌝ }
     ensures { λ r. ⌜ (r ≡ at + length (queue.wrongText held))
         × (now (out .exit) ≡ sets (now (out .entry)) at (queue.wrongText held)) × (r ≤ at + 63) ⌝ }

@@ -8,6 +8,7 @@ use lib.IntN.{ℤ, pos}
 use lib.Ieee.{Float, nan, inf, fin, isNan, neg, binary32, eq, lt, ofInt}
 use borrow.Author.Tests.{eq-eqb, ne-eqb}
 use Rattle.frame_info.specs.Choice.{pick}
+use Rattle.frame_info.proofs.Picked.{picked}
 use Rattle.time_sync.specs.declared.TimeSync.{TimeSync}
 use Rattle.time_sync.specs.declared.Averages.{Averages}
 use Rattle.time_sync.specs.declared.Reading.{Reading}
@@ -39,9 +40,8 @@ turned nan h = h
 turned (inf s) h = h
 turned (fin s m e) h = h
 
-picked : (t : Bool) (a b : Shown) → T (not (isNan (a .size))) → T (not (isNan (b .size))) → T (not (isNan (pick t a b .size)))
-picked true a b x y = x
-picked false a b x y = y
+abbrev Plain : Shown → Type 0
+Plain a = T (not (isNan (a .size)))
 
 even-plain : T (not (isNan (even .size)))
 unfolding isNan ofInt
@@ -51,8 +51,8 @@ size-plain : (s : TimeSync) → T (not (isNan (readingOf s .size)))
 unfolding readingOf
 size-plain s =
     let h = under-no-nan (half s) (half-under s) in
-    picked (eq (half s) (inBinary32 (pos 0))) even _ even-plain
-    (picked (lt (inBinary32 (pos 0)) (half s)) (overBy (half s)) (underBy (neg (half s))) h (turned (half s) h))
+    picked Plain (eq (half s) (inBinary32 (pos 0))) even _ even-plain
+    (picked Plain (lt (inBinary32 (pos 0)) (half s)) (overBy (half s)) (underBy (neg (half s))) h (turned (half s) h))
 
 module _ (s : TimeSync) (r : Reading) (x : Float) (e : shown r ≡ readingOf s) where
   pub over-plain : r ≡ Over x → T (not (isNan x))

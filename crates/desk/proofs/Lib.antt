@@ -1,4 +1,5 @@
 pub mod Kept
+pub mod Guessing
 pub mod Loops
 pub mod Answers
 pub mod Served

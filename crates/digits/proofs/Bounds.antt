@@ -13,7 +13,7 @@ use mir.Val.{SFits}
 use borrow.Author.Tests.{ltb-true, leb-true}
 use Rattle.digits.specs.declared.Number.{Number}
 use Rattle.digits.specs.declared.Number.the-variants.{Of, Not}
-use Rattle.frame_info.specs.Choice.{pick}
+use Rattle.frame_info.proofs.Picked.{picked-if}
 use Rattle.digits.specs.Digits.{allDigits, valueOf, numberOf, decimalOf, wordOf, patternOf, andThen, signedOf, decimalText, signedText, wordText}
 use Rattle.digits.proofs.Writing.{length-digits, length-decimal, width-ten}
 
@@ -23,10 +23,6 @@ abbrev pub Small : Number → Type 0
 Small (Of n) = n < 2 ^ 32
 Small Not = 0 < 1
 
-picked : (t : Bool) (m n : Number) → (t ≡ true → Small m) → Small n → Small (pick t m n)
-picked true m n f s = f refl
-picked false m n f s = s
-
 last-true : (s t u : Bool) → (s && (t && u)) ≡ true → u ≡ true
 last-true true true u h = h
 last-true true false u h = absurd (true≢false (sym h))
@@ -35,7 +31,7 @@ last-true false t u h = absurd (true≢false (sym h))
 number-small : (base : ℕ) (s : List ℕ) → Small (numberOf base s)
 unfolding numberOf
 number-small base s =
-    picked (ltb 0 (length s) && (allDigits base s && ltb (valueOf base s) (2 ^ 32))) (Of (valueOf base s)) Not
+    picked-if Small (ltb 0 (length s) && (allDigits base s && ltb (valueOf base s) (2 ^ 32))) (Of (valueOf base s)) Not
     (λ h. ltb-true (valueOf base s) (2 ^ 32) (last-true (ltb 0 (length s)) (allDigits base s) (ltb (valueOf base s) (2 ^ 32)) h))
     (omega arith)
 
@@ -45,12 +41,12 @@ decimal-small s = number-small 10 s
 
 pub word-small : (s : List ℕ) → Small (wordOf s)
 unfolding wordOf
-word-small s = picked (leb (length s) 8) (numberOf 16 s) Not (λ h. number-small 16 s) (omega arith)
+word-small s = picked-if Small (leb (length s) 8) (numberOf 16 s) Not (λ h. number-small 16 s) (omega arith)
 
 pattern-small : (z : ℤ) → Small (patternOf z)
 unfolding patternOf
-pattern-small (pos n) = picked (leb n 2147483647) (Of n) Not (λ h. omega (arith, leb-true n 2147483647 h)) (omega arith)
-pattern-small (negsuc n) = picked (leb n 2147483647 && true) (Of (2 ^ 32 - suc n)) Not (λ h. omega arith) (omega arith)
+pattern-small (pos n) = picked-if Small (leb n 2147483647) (Of n) Not (λ h. omega (arith, leb-true n 2147483647 h)) (omega arith)
+pattern-small (negsuc n) = picked-if Small (leb n 2147483647 && true) (Of (2 ^ 32 - suc n)) Not (λ h. omega arith) (omega arith)
 
 then-small : (m : Number) (f : ℕ → Number) → ((n : ℕ) → Small (f n)) → Small (andThen m f)
 unfolding andThen
@@ -61,7 +57,7 @@ pub signed-small : (s : List ℕ) → Small (signedOf s)
 unfolding signedOf
 signed-small [] = omega arith
 signed-small (b ∷ s) =
-    picked (eqb b 45) (andThen (numberOf 10 s) (λ n. patternOf (negℤ (pos n)))) (andThen (numberOf 10 (b ∷ s)) (λ n. patternOf (pos n)))
+    picked-if Small (eqb b 45) (andThen (numberOf 10 s) (λ n. patternOf (negℤ (pos n)))) (andThen (numberOf 10 (b ∷ s)) (λ n. patternOf (pos n)))
     (λ h. then-small (numberOf 10 s) (λ n. patternOf (negℤ (pos n))) (λ n. pattern-small (negℤ (pos n))))
     (then-small (numberOf 10 (b ∷ s)) (λ n. patternOf (pos n)) (λ n. pattern-small (pos n)))
 

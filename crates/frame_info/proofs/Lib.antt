@@ -1,3 +1,4 @@
 pub mod Split
+pub mod Picked
 pub mod Counts
 pub mod Words

@@ -8,7 +8,7 @@ use mathlib.Core.List.{List, [], _∷_}
 use lib.ListN.{length, getD}
 use lib.Dec.{ltb, leb, eqb}
 use borrow.Author.Tests.{ltb-true, leb-true}
-use Rattle.frame_info.specs.Choice.{pick}
+use Rattle.frame_info.proofs.Picked.{picked-if}
 use Rattle.sheet.specs.declared.calls.Call.{Call}
 use Rattle.sheet.specs.declared.Line.{Line}
 use Rattle.sheet.specs.declared.Value.{Value}
@@ -17,10 +17,8 @@ use Rattle.sheet.specs.Fields.{fieldsOf}
 use Rattle.sheet.specs.Calls.{Row, row, calls, rowCount, placeOf, noRow, kindAt, valueOf, BAD, PASSED}
 use Rattle.sheet.specs.Reading.{Reading, alone, before, fieldsFrom, called, fieldsRead, readingOf}
 
--- of two readings, whichever is taken
-picked : (b : Bool) (r s : Reading) (n : ℕ) → (b ≡ true → r .line .count ≤ n) → s .line .count ≤ n → pick b r s .line .count ≤ n
-picked true r s n f g = f refl
-picked false r s n f g = g
+abbrev Few : ℕ → Reading → Type 0
+Few n r = r .line .count ≤ n
 
 kept : (v : Value) (r : Reading) (n : ℕ) → r .line .count ≤ n → before v r .line .count ≤ n
 unfolding before alone
@@ -29,9 +27,9 @@ kept Wrong r n h = omega arith
 
 fields-few : (c : Call) (fs : List (List ℕ)) (i : ℕ) → i ≤ c .most → fieldsFrom c i fs .line .count ≤ c .most
 unfolding fieldsFrom alone
-fields-few c [] i h = picked (leb (c .least) i) _ _ (c .most) (λ e. h) (omega arith)
+fields-few c [] i h = picked-if (Few (c .most)) (leb (c .least) i) _ _ (λ e. h) (omega arith)
 fields-few c (f ∷ fs) i h =
-    picked (ltb i (c .most)) _ _ (c .most)
+    picked-if (Few (c .most)) (ltb i (c .most)) _ _
     (λ e. kept (valueOf (kindAt c i) f) (fieldsFrom c (i + 1) fs) (c .most) (fields-few c fs (i + 1) (omega (arith, ltb-true i (c .most) e))))
     (omega arith)
 
@@ -57,17 +55,17 @@ calls-few = refl
 called-few : (k : ℕ) (fs : List (List ℕ)) → called k fs .line .count ≤ 2047
 unfolding called alone
 called-few k fs =
-    picked (ltb k rowCount) _ _ 2047
+    picked-if (Few 2047) (ltb k rowCount) _ _
     (λ e. omega (arith, fields-few (getD calls k noRow .call) fs 0 (omega arith), row-few 2047 calls k calls-few))
     (omega arith)
 
 read-few : (fs : List (List ℕ)) → fieldsRead fs .line .count ≤ 2047
 unfolding fieldsRead alone
 read-few [] = omega arith
-read-few (f ∷ fs) = picked (eqb (getD f 0 0) 35) _ _ 2047 (λ e. omega arith) (called-few (placeOf f calls) fs)
+read-few (f ∷ fs) = picked-if (Few 2047) (eqb (getD f 0 0) 35) _ _ (λ e. omega arith) (called-few (placeOf f calls) fs)
 
 pub count-few : (line : List ℕ) (r : Line) → r ≡ readingOf line .line → r .count < 2048
 unfolding readingOf alone
 count-few line r e =
-    let h : readingOf line .line .count ≤ 2047 = picked (ltb 4096 (length line)) (alone BAD) (fieldsRead (fieldsOf line)) 2047 (λ d. omega arith) (read-few (fieldsOf line)) in
+    let h : readingOf line .line .count ≤ 2047 = picked-if (Few 2047) (ltb 4096 (length line)) (alone BAD) (fieldsRead (fieldsOf line)) (λ d. omega arith) (read-few (fieldsOf line)) in
     rw e (omega (arith, h))

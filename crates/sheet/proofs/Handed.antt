@@ -11,6 +11,7 @@ use lib.Seq.{sets, getD-set-same, getD-set-other}
 use lib.Dec.{eqb, ltb, leb}
 use borrow.Author.Tests.{eqb-true, eq-eqb}
 use Rattle.frame_info.specs.Choice.{pick}
+use Rattle.frame_info.proofs.Picked.{picked, picked-if}
 use Rattle.frame_info.proofs.Split.{split-ltb}
 use Rattle.digits.specs.Digits.{decimalOf, signedOf, wordOf}
 use Rattle.digits.specs.declared.Number.{Number}
@@ -105,10 +106,6 @@ module _ (n : ℕ) where
   unfolding Below
   is-below v h = h
 
-  picked : (t : Bool) (u v : Value) → Below n u → Below n v → Below n (pick t u v)
-  picked true u v a b = a
-  picked false u v a b = b
-
   held-below : (m : Number) → 2 ^ 32 ≤ n → Small m → Below n (held m)
   unfolding held Below
   held-below (Of v) h s = omega arith
@@ -116,42 +113,38 @@ module _ (n : ℕ) where
 
   up-below : (most : ℕ) (m : Number) → 2 ^ 32 ≤ n → Small m → Below n (upTo most m)
   unfolding upTo Below
-  up-below most (Of v) h s = picked (leb v most) (Is v) Wrong (omega arith) (omega arith)
+  up-below most (Of v) h s = picked (Below n) (leb v most) (Is v) Wrong (omega arith) (omega arith)
   up-below most Not h s = omega arith
 
   flag-below : (s : List ℕ) → 2 ^ 32 ≤ n → Below n (flagOf s)
   unfolding flagOf
-  flag-below s h = picked (sameText s (bytesOf "0")) (Is 0) _ (is-below 0 (omega arith)) (picked (sameText s (bytesOf "1")) (Is 1) Wrong (is-below 1 (omega arith)) wrong-below)
+  flag-below s h = picked (Below n) (sameText s (bytesOf "0")) (Is 0) _ (is-below 0 (omega arith)) (picked (Below n) (sameText s (bytesOf "1")) (Is 1) Wrong (is-below 1 (omega arith)) wrong-below)
 
   counted-below : (s : List ℕ) → 2 ^ 32 ≤ n → length s ≤ 4096 → Below n (countedOf s)
   unfolding countedOf
   counted-below s h k =
-      picked (sameText s (bytesOf "-")) (Is 0) _ (is-below 0 (omega arith)) (picked (isHex s) (Is (length s / 2)) Wrong (is-below (length s / 2) (omega arith)) wrong-below)
+      picked (Below n) (sameText s (bytesOf "-")) (Is 0) _ (is-below 0 (omega arith)) (picked (Below n) (isHex s) (Is (length s / 2)) Wrong (is-below (length s / 2) (omega arith)) wrong-below)
 
 status-below : (s : List ℕ) → Below (2 ^ 32 + 1) (statusOf s)
 unfolding statusOf
 status-below s =
-    picked (2 ^ 32 + 1) (sameText s (bytesOf "on")) (Is ON) _ (is-below (2 ^ 32 + 1) ON (omega arith))
-    (picked (2 ^ 32 + 1) (sameText (take 5 s) (bytesOf "gone:")) (held (signedOf (drop 5 s))) Wrong (held-below (2 ^ 32 + 1) (signedOf (drop 5 s)) (omega arith) (signed-small (drop 5 s)))
+    picked (Below (2 ^ 32 + 1)) (sameText s (bytesOf "on")) (Is ON) _ (is-below (2 ^ 32 + 1) ON (omega arith))
+    (picked (Below (2 ^ 32 + 1)) (sameText (take 5 s) (bytesOf "gone:")) (held (signedOf (drop 5 s))) Wrong (held-below (2 ^ 32 + 1) (signedOf (drop 5 s)) (omega arith) (signed-small (drop 5 s)))
     (wrong-below (2 ^ 32 + 1)))
 
 module _ (n : ℕ) (h : 2 ^ 32 ≤ n) where
-  status-if : (t : Bool) (u v : Value) → (t ≡ true → Below n u) → Below n v → Below n (pick t u v)
-  status-if true u v a b = a refl
-  status-if false u v a b = b
-
   value-below : (kind : ℕ) (s : List ℕ) → length s ≤ 4096 → (kind ≡ STATUS → Below n (statusOf s)) → Below n (valueOf kind s)
   unfolding valueOf
   value-below kind s k g =
-      picked n (eqb kind NUMBER) (held (decimalOf s)) _ (held-below n (decimalOf s) h (decimal-small s))
-      (picked n (eqb kind FRAME) (held (signedOf s)) _ (held-below n (signedOf s) h (signed-small s))
-      (picked n (eqb kind WORD) (held (wordOf s)) _ (held-below n (wordOf s) h (word-small s))
-      (picked n (eqb kind ROOM) (upTo 4096 (decimalOf s)) _ (up-below n 4096 (decimalOf s) h (decimal-small s))
-      (picked n (eqb kind LENS) (upTo 512 (decimalOf s)) _ (up-below n 512 (decimalOf s) h (decimal-small s))
-      (picked n (eqb kind LEN) (upTo 65535 (decimalOf s)) _ (up-below n 65535 (decimalOf s) h (decimal-small s))
-      (picked n (eqb kind FLAG) (flagOf s) _ (flag-below n s h)
-      (status-if (eqb kind STATUS) (statusOf s) _ (λ e. g (eqb-true kind STATUS e))
-      (picked n (eqb kind BYTES) (countedOf s) Wrong (counted-below n s h k) (wrong-below n)))))))))
+      picked (Below n) (eqb kind NUMBER) (held (decimalOf s)) _ (held-below n (decimalOf s) h (decimal-small s))
+      (picked (Below n) (eqb kind FRAME) (held (signedOf s)) _ (held-below n (signedOf s) h (signed-small s))
+      (picked (Below n) (eqb kind WORD) (held (wordOf s)) _ (held-below n (wordOf s) h (word-small s))
+      (picked (Below n) (eqb kind ROOM) (upTo 4096 (decimalOf s)) _ (up-below n 4096 (decimalOf s) h (decimal-small s))
+      (picked (Below n) (eqb kind LENS) (upTo 512 (decimalOf s)) _ (up-below n 512 (decimalOf s) h (decimal-small s))
+      (picked (Below n) (eqb kind LEN) (upTo 65535 (decimalOf s)) _ (up-below n 65535 (decimalOf s) h (decimal-small s))
+      (picked (Below n) (eqb kind FLAG) (flagOf s) _ (flag-below n s h)
+      (picked-if (Below n) (eqb kind STATUS) (statusOf s) _ (λ e. g (eqb-true kind STATUS e))
+      (picked (Below n) (eqb kind BYTES) (countedOf s) Wrong (counted-below n s h k) (wrong-below n)))))))))
 
   none-below : (k : ℕ) → getD {A = ℕ} [] k 0 < n
   none-below k = omega arith
@@ -167,16 +160,15 @@ module _ (n : ℕ) (h : 2 ^ 32 ≤ n) where
     unfolding alone
     alone-below call = none-below k
 
-    either : (t : Bool) (q r : Reading) → getD (q .values) k 0 < n → getD (r .values) k 0 < n → getD (pick t q r .values) k 0 < n
-    either true q r a b = a
-    either false q r a b = b
+    abbrev Lower : Reading → Type 0
+    Lower r = getD (r .values) k 0 < n
 
   fields-below : (c : Call) → ((i : ℕ) (s : List ℕ) → kindAt c i ≡ STATUS → Below n (statusOf s)) → (i : ℕ) (fs : List (List ℕ)) → Short 4096 fs → (k : ℕ)
       → getD (fieldsFrom c i fs .values) k 0 < n
   unfolding fieldsFrom Short
-  fields-below c g i [] s k = either k (leb (c .least) i) (record { line = record { call = c .number; count = i }; values = [] }) (alone BAD) (none-below k) (alone-below k BAD)
+  fields-below c g i [] s k = picked (Lower k) (leb (c .least) i) (record { line = record { call = c .number; count = i }; values = [] }) (alone BAD) (none-below k) (alone-below k BAD)
   fields-below c g i (f ∷ fs) s k =
-      either k (ltb i (c .most)) (before (valueOf (kindAt c i) f) (fieldsFrom c (i + 1) fs)) (alone BAD)
+      picked (Lower k) (ltb i (c .most)) (before (valueOf (kindAt c i) f) (fieldsFrom c (i + 1) fs)) (alone BAD)
       (before-below (valueOf (kindAt c i) f) (fieldsFrom c (i + 1) fs) k (value-below (kindAt c i) f (s .0) (g i f)) (λ j. fields-below c g (i + 1) fs (s .1) j))
       (alone-below k BAD)
 
@@ -184,8 +176,8 @@ module _ (n : ℕ) (h : 2 ^ 32 ≤ n) where
   unfolding fieldsRead called Short named
   read-below [] s g k = alone-below k PASSED
   read-below (f ∷ fs) s g k =
-      either k (eqb (getD f 0 0) 35) (alone PASSED) (called (placeOf f calls) fs) (alone-below k PASSED)
-      (either k (ltb (placeOf f calls) rowCount) (fieldsFrom (named (f ∷ fs)) 0 fs) (alone BAD) (fields-below (named (f ∷ fs)) g 0 fs (s .1) k) (alone-below k BAD))
+      picked (Lower k) (eqb (getD f 0 0) 35) (alone PASSED) (called (placeOf f calls) fs) (alone-below k PASSED)
+      (picked (Lower k) (ltb (placeOf f calls) rowCount) (fieldsFrom (named (f ∷ fs)) 0 fs) (alone BAD) (fields-below (named (f ∷ fs)) g 0 fs (s .1) k) (alone-below k BAD))
 
   line-below : (line : List ℕ) → ((i : ℕ) (s : List ℕ) → kindAt (named (fieldsOf line)) i ≡ STATUS → Below n (statusOf s)) → (k : ℕ) → getD (readingOf line .values) k 0 < n
   unfolding readingOf
@@ -224,9 +216,8 @@ module _ (d : ℕ) where
 
 -- the line counts no more fields than there are values
 module _ (n : ℕ) where
-  few-either : (t : Bool) (q r : Reading) → q .line .count ≤ n + length (q .values) → r .line .count ≤ n + length (r .values) → pick t q r .line .count ≤ n + length (pick t q r .values)
-  few-either true q r a b = a
-  few-either false q r a b = b
+  abbrev Fewer : Reading → Type 0
+  Fewer r = r .line .count ≤ n + length (r .values)
 
   few-alone : (call : ℕ) → alone call .line .count ≤ n + length (alone call .values)
   unfolding alone
@@ -239,9 +230,9 @@ few-before n Wrong r h = omega arith
 
 fields-few : (c : Call) (i : ℕ) (fs : List (List ℕ)) → fieldsFrom c i fs .line .count ≤ i + length (fieldsFrom c i fs .values)
 unfolding fieldsFrom
-fields-few c i [] = few-either i (leb (c .least) i) (record { line = record { call = c .number; count = i }; values = [] }) (alone BAD) (omega arith) (few-alone i BAD)
+fields-few c i [] = picked (Fewer i) (leb (c .least) i) (record { line = record { call = c .number; count = i }; values = [] }) (alone BAD) (omega arith) (few-alone i BAD)
 fields-few c i (f ∷ fs) =
-    few-either i (ltb i (c .most)) (before (valueOf (kindAt c i) f) (fieldsFrom c (i + 1) fs)) (alone BAD)
+    picked (Fewer i) (ltb i (c .most)) (before (valueOf (kindAt c i) f) (fieldsFrom c (i + 1) fs)) (alone BAD)
     (few-before i (valueOf (kindAt c i) f) (fieldsFrom c (i + 1) fs) (fields-few c (i + 1) fs))
     (few-alone i BAD)
 
@@ -249,12 +240,12 @@ read-few : (fs : List (List ℕ)) → fieldsRead fs .line .count ≤ 0 + length 
 unfolding fieldsRead called
 read-few [] = few-alone 0 PASSED
 read-few (f ∷ fs) =
-    few-either 0 (eqb (getD f 0 0) 35) (alone PASSED) (called (placeOf f calls) fs) (few-alone 0 PASSED)
-    (few-either 0 (ltb (placeOf f calls) rowCount) (fieldsFrom (getD calls (placeOf f calls) noRow .call) 0 fs) (alone BAD) (fields-few (getD calls (placeOf f calls) noRow .call) 0 fs) (few-alone 0 BAD))
+    picked (Fewer 0) (eqb (getD f 0 0) 35) (alone PASSED) (called (placeOf f calls) fs) (few-alone 0 PASSED)
+    (picked (Fewer 0) (ltb (placeOf f calls) rowCount) (fieldsFrom (getD calls (placeOf f calls) noRow .call) 0 fs) (alone BAD) (fields-few (getD calls (placeOf f calls) noRow .call) 0 fs) (few-alone 0 BAD))
 
 line-few : (line : List ℕ) → readingOf line .line .count ≤ 0 + length (readingOf line .values)
 unfolding readingOf
-line-few line = few-either 0 (ltb 4096 (length line)) (alone BAD) (fieldsRead (fieldsOf line)) (few-alone 0 BAD) (read-few (fieldsOf line))
+line-few line = picked (Fewer 0) (ltb 4096 (length line)) (alone BAD) (fieldsRead (fieldsOf line)) (few-alone 0 BAD) (read-few (fieldsOf line))
 
 -- each number handed out for a field of the call is that field's value
 pub arg-is : (line args : List ℕ) (k : ℕ) → k < readingOf line .line .count → k < length args → getD (argsAfter line args) k 0 ≡ getD (readingOf line .values) k 0
