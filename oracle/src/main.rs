@@ -4,6 +4,8 @@ use std::io::{self, Read, Write};
 
 mod delta;
 mod desk;
+#[cfg(test)]
+mod differences;
 mod host;
 mod layer;
 mod queue;

@@ -1,4 +1,4 @@
-//! The original compression.rs, unchanged, with a way to its two private functions. Its run-length step is not asked for.
+//! The original compression.rs, unchanged, with a way to its two private functions. Its run-length step has a stand-in.
 
 include!(concat!(env!("GGRS_SRC"), "/network/compression.rs"));
 
@@ -10,13 +10,14 @@ pub(crate) fn unpack(reference: &[u8], packet: &[u8]) -> Result<Vec<Vec<u8>>, St
     delta_decode(reference, packet).map_err(|why| why.to_string())
 }
 
-/// Stands where the original finds a crate of this name. Only `encode` and `decode` call it, and nothing calls them.
+/// Stands where the original finds a crate of this name. Only `encode` and `decode` call it, and only a test calls
+/// them, to see the bytes that it is handed.
 mod bitfield_rle {
-    pub(super) fn encode(_: Vec<u8>) -> Vec<u8> {
-        unreachable!()
+    pub(super) fn encode(bytes: Vec<u8>) -> Vec<u8> {
+        unreachable!("{bytes:?}")
     }
 
-    pub(super) fn decode(_: &[u8]) -> Result<Vec<u8>, String> {
-        unreachable!()
+    pub(super) fn decode(bytes: &[u8]) -> Result<Vec<u8>, String> {
+        unreachable!("{bytes:?}")
     }
 }
