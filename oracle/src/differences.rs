@@ -296,6 +296,23 @@ fn layer_a_seat_that_is_not_there() {
     panics("player_handle < self.num_players", || layer.set_frame_delay(4, 0));
 }
 
+#[test]
+fn layer_a_setup_out_of_range() {
+    for (seats, limit) in [(1, 16), (0, 2), (5, 2)] {
+        assert_eq!(layer(seats, limit).current_frame(), 0);
+    }
+}
+
+/// It can be called so often, since no word and no slot is needed for it.
+#[test]
+fn layer_an_advance_past_the_last_frame() {
+    let mut layer = layer(1, 0);
+    for _ in 0..1_000_000_001 {
+        layer.advance_frame();
+    }
+    assert_eq!(layer.current_frame(), 1_000_000_001);
+}
+
 // compression
 
 #[test]
