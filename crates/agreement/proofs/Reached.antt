@@ -1,6 +1,6 @@
 -- What ties a run to the promises: a run's calls are the promised ones, what they presume holds after every run, and a setup is
 -- not refused just where it is fit. Assumes nothing.
-use Prim.Native.Nat.{ℕ, zero, suc, _-_, _<_, _≤_, min}
+use Prim.Native.Nat.{ℕ, zero, suc, _-_, _<_, _≤_}
 use native.Mathlib.Omega.{arith}
 use mathlib.Core.Path.{_≡_, refl, ap, sym, _∙_}
 use mathlib.Core.Bool.{true, false, true≢false}
@@ -8,10 +8,9 @@ use mathlib.Core.Logic.{⊎-elim, _≢_}
 use mathlib.Core.List.{List, [], _∷_}
 use Prim.{absurd}
 use lib.ListN.{length, getD}
-use Rattle.frame_info.specs.Frame.{maxDelay, predictors, countOf}
+use Rattle.frame_info.specs.Frame.{maxDelay, predictors}
 use Rattle.frame_info.specs.Word.{predicted}
 use Rattle.frame_info.proofs.Split.{split-eqb, split-ltb, split-leb, split-bool}
-use Rattle.console.specs.declared.Console.{Console}
 use Rattle.console.specs.Step.{stepOf}
 use Rattle.sync_layer.specs.Seats.{maxSeats}
 use Rattle.sync_layer.specs.Slots.{maxLimit}
@@ -19,9 +18,9 @@ use Rattle.sync_layer.specs.Whole.{SeatRoom, WordRoom, SlotRoom}
 use Rattle.sync_layer.specs.Calls.{allLate, openedSeats, openedSlots}
 use Rattle.sync_layer.specs.Calls as layer
 use Rattle.desk.specs.declared.DeskState.{DeskState}
-use Rattle.desk.specs.Desk.{Desk, Setup, setupState, setupOf, queueOf, knownOf, mismatchOf, takeAnswer, taken, take, load, resetAll, discardAll, confirm, oneFrame, replay, corrected, settle, advanceAnswer, advance}
+use Rattle.desk.specs.Desk.{Desk, Setup, setupState, setupOf, queueOf, settle, advance}
 use Rattle.desk.specs.Calls.{setupAnswer, settleOf, advanceOf}
-use Rattle.desk.specs.Runs.{Call, take-call, settle-call, advance-call, show-call, log-call, after, runFrom, run, Fit}
+use Rattle.desk.specs.Runs.{Call, settle-call, advance-call, after, run, Fit}
 use Rattle.desk.specs.Whole as whole
 use Rattle.desk.proofs.Guessing.{run-predictor}
 use Rattle.agreement.specs.Statement.{runOf, acceptedOf}

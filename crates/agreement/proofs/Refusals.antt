@@ -5,10 +5,9 @@ use mathlib.Core.Path.{_≡_, refl, ap, sym, _∙_}
 use mathlib.Core.Logic.{inl, inr, ⊎-elim, _≢_}
 use mathlib.Core.List.{List}
 use Prim.{absurd}
-use mathlib.Core.Bool.{Bool, true, false}
+use mathlib.Core.Bool.{true, false}
 use lib.Dec.{ltb, leb, eqb}
 use borrow.Author.Tests.{eq-eqb, ne-eqb, le-ltb, lt-leb}
-use Rattle.frame_info.specs.Choice.{pick}
 use Rattle.frame_info.proofs.Picked.{picked}
 use Rattle.frame_info.specs.Frame.{lastCount, countOf}
 use Rattle.frame_info.proofs.Split.{split-eqb}

@@ -1,13 +1,12 @@
 -- Every number that is told by its bits is a number, and the fields are the frames that they stand for. Assumes nothing.
 use Prim.Native.Nat.{ℕ}
 use mathlib.Core.Path.{_≡_, ap, sym, subst, _∙_}
-use mathlib.Core.Bool.{Bool, not, true, false}
+use mathlib.Core.Bool.{not}
 use lib.Dec.{T}
 use mathlib.Core.List.{List}
 use lib.IntN.{ℤ, pos}
-use lib.Ieee.{Float, nan, inf, fin, isNan, neg, binary32, eq, lt, ofInt}
+use lib.Ieee.{Float, nan, inf, fin, isNan, neg, eq, lt, ofInt}
 use borrow.Author.Tests.{eq-eqb, ne-eqb}
-use Rattle.frame_info.specs.Choice.{pick}
 use Rattle.frame_info.proofs.Picked.{picked}
 use Rattle.time_sync.specs.declared.TimeSync.{TimeSync}
 use Rattle.time_sync.specs.declared.Averages.{Averages}

@@ -15,7 +15,6 @@ use Rattle.desk.specs.Whole as desks
 use Rattle.desk.specs.Desk.{deskOf}
 use Rattle.desk.specs.declared.DeskState.{DeskState}
 use Rattle.cues_queue.specs.declared.Held.{Held}
-use Rattle.cues_world.specs.declared.World.{World}
 use Rattle.cues_world.specs.Force.{Whole, listsOf}
 
 pub queue-fresh : (o : Opened) (ring : List ℕ) → 128 ≡ length ring → o ≡ queue.opened 0 0 → queues.Whole ring 0 (o .state)

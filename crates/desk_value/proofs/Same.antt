@@ -1,17 +1,12 @@
 -- Any run of calls on a desk by value leads to what the same run leads to on lent lists. Assumes nothing.
-use Prim.Native.Nat.{ℕ, zero, suc, _-_}
+use Prim.Native.Nat.{ℕ, _-_}
 use mathlib.Core.Path.{_≡_, refl, _∙_, ap}
 use mathlib.Core.List.{List, [], _∷_}
-use mathlib.Core.Logic.{⊎-elim}
-use Rattle.frame_info.proofs.Split.{split-eqb}
-use Rattle.frame_info.specs.Frame.{countOf}
 use Rattle.frame_info.specs.Word.{predicted}
-use Rattle.console.specs.declared.Console.{Console}
 use Rattle.console.specs.Step.{stepOf}
-use Rattle.desk.specs.declared.DeskState.{DeskState}
 use Rattle.desk.specs.Desk as m
 use Rattle.desk.specs.Runs as runs
-use Rattle.desk.specs.Runs.{Call, take-call, settle-call, advance-call, show-call, log-call}
+use Rattle.desk.specs.Runs.{Call}
 use Rattle.desk.proofs.Guessing.{after-predictor}
 use Rattle.desk_value.specs.declared.Desk.{Desk}
 use Rattle.desk_value.specs.Value as held
