@@ -1,7 +1,8 @@
-//! Finds the original files. GGRS_SRC names the folder that holds input_queue.rs; the modules under src/original include the files from there.
+//! Finds the original files, and tests that they are those of ggrs 0.13.0. GGRS_SRC names the folder that holds input_queue.rs; the
+//! modules under src/original include the files from there.
 
 use std::path::Path;
-use std::process::exit;
+use std::process::{exit, Command};
 
 const FILES: [&str; 5] = ["frame_info.rs", "input_queue.rs", "sync_layer.rs", "time_sync.rs", "network/compression.rs"];
 
@@ -9,6 +10,22 @@ fn stop(why: String) -> ! {
     eprintln!("{why}");
     eprintln!("Set GGRS_SRC to the folder of ggrs 0.13.0 that holds input_queue.rs.");
     exit(1)
+}
+
+/// Stops where a file's sha256 is not the one in original.sha256.
+fn test(folder: &Path) {
+    println!("cargo:rerun-if-changed=original.sha256");
+    let pins = Path::new(env!("CARGO_MANIFEST_DIR")).join("original.sha256");
+    let said =
+        Command::new("sha256sum").args(["--check", "--strict", "--quiet"]).arg(pins).current_dir(folder).output();
+    match said {
+        Ok(said) if said.status.success() => {}
+        Ok(said) => {
+            let lines = String::from_utf8_lossy(&said.stdout).trim().to_string();
+            stop(format!("The files in {} are not those of ggrs 0.13.0: {lines}", folder.display()))
+        }
+        Err(why) => stop(format!("sha256sum, which tests the original files, was not run: {why}.")),
+    }
 }
 
 fn main() {
@@ -28,5 +45,6 @@ fn main() {
         }
         println!("cargo:rerun-if-changed={}", path.display());
     }
+    test(&folder);
     println!("cargo:rustc-env=GGRS_SRC={}", folder.display());
 }

@@ -1,6 +1,7 @@
-"""What compare, sample and nights share: where things stand, the build, the runs, and which lines of a sheet are calls."""
+"""What compare, large, sample and nights share: where things stand, the build, the runs, and which lines of a sheet are calls."""
 
 import glob
+import hashlib
 import os
 import platform
 import shutil
@@ -33,7 +34,22 @@ def source():
     return beside
 
 
+def test_original(folder):
+    """Stops where a file of the original is not the one of ggrs 0.13.0 that is pinned in original.sha256."""
+    with open(os.path.join(HERE, "original.sha256"), encoding="ascii") as pins:
+        for pin in pins:
+            wanted, name = pin.split()
+            try:
+                with open(os.path.join(folder, name), "rb") as file:
+                    found = hashlib.sha256(file.read()).hexdigest()
+            except OSError as why:
+                stop(f"{why.filename}: {why.strerror}. Set GGRS_SRC to the folder of ggrs 0.13.0 that holds input_queue.rs.")
+            if found != wanted:
+                stop(f"{os.path.join(folder, name)} is not the file of ggrs 0.13.0: its sha256 is {found}, not {wanted}.")
+
+
 def build():
+    test_original(source())
     if shutil.which("cargo") is None:
         stop("There is no cargo on the path; the oracle is built with it.")
     if not glob.glob("/usr/share/cargo/registry/parking_lot-[0-9]*"):
@@ -45,10 +61,11 @@ def build():
         stop("The oracle was not built.")
 
 
-def generate(seed, lines, kind):
-    done = subprocess.run([os.path.join(BUILT, "generate"), str(seed), str(lines), kind], stdout=subprocess.PIPE)
+def generate(seed, lines, kind, way=None):
+    words = [str(seed), str(lines), kind] + ([way] if way else [])
+    done = subprocess.run([os.path.join(BUILT, "generate"), *words], stdout=subprocess.PIPE)
     if done.returncode != 0:
-        stop(f"generate {seed} {lines} {kind} ended with status {done.returncode}")
+        stop(f"generate {' '.join(words)} ended with status {done.returncode}")
     return done.stdout
 
 
@@ -61,8 +78,8 @@ def run(command, sheet):
     return done.returncode, answers
 
 
-def oracle(sheet):
-    status, answers = run([os.path.join(BUILT, "oracle")], sheet)
+def oracle(sheet, *words):
+    status, answers = run([os.path.join(BUILT, "oracle"), *words], sheet)
     if status != 0:
         stop(f"The oracle ended with status {status}.")
     return answers

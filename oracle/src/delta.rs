@@ -2,7 +2,7 @@
 
 use crate::compression;
 use crate::refusal::{no, No};
-use crate::sheet::{Answers, Fields};
+use crate::sheet::{bound, Answers, Fields};
 
 const MOST_ROOM: u32 = 4096;
 const MOST_LENGTHS: u32 = 512;
@@ -57,7 +57,7 @@ fn unpack(reference: &[u8], packet: &[u8], lent: &mut [u8], lengths: &mut [u32])
 }
 
 pub fn call(name: &[u8], fields: &mut Fields, out: &mut Answers) -> Option<()> {
-    let room = fields.number_up_to(MOST_ROOM)?;
+    let room = fields.number_up_to(bound(MOST_ROOM))?;
     let mut lent = vec![LENT_BYTE; room as usize];
     if name == b"pack" {
         let (reference, pending) = (fields.bytes()?, fields.bytes()?);
@@ -68,7 +68,7 @@ pub fn call(name: &[u8], fields: &mut Fields, out: &mut Answers) -> Option<()> {
         out.bytes(&lent);
         return Some(());
     }
-    let mut lengths = vec![LENT_LENGTH; fields.number_up_to(MOST_LENGTHS)? as usize];
+    let mut lengths = vec![LENT_LENGTH; fields.number_up_to(bound(MOST_LENGTHS))? as usize];
     let (reference, packet) = (fields.bytes()?, fields.bytes()?);
     fields.end()?;
     if let Some((bytes, count)) = out.result(unpack(&reference, &packet, &mut lent, &mut lengths)) {

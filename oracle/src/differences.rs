@@ -6,10 +6,10 @@
 
 use crate::compression;
 use crate::frame_info::PlayerInput;
-use crate::host::{ConnectionStatus, Frame, InputStatus, Words, NULL_FRAME};
+use crate::host::{ConnectionStatus, Frame, GgrsRequest, InputStatus, Words, NULL_FRAME};
 use crate::input_queue::InputQueue;
 use crate::refusal::{ask, No};
-use crate::sync_layer::SyncLayer;
+use crate::sync_layer::{GameStateCell, SyncLayer};
 use crate::time_sync::TimeSync;
 
 const MISMATCH_STANDS: &str = "self.first_incorrect_frame == NULL_FRAME";
@@ -63,6 +63,14 @@ fn on() -> ConnectionStatus {
 
 fn gone() -> ConnectionStatus {
     ConnectionStatus { disconnected: true, last_frame: NULL_FRAME }
+}
+
+/// The cell that a save of the current frame hands out.
+fn saved_cell(layer: &mut SyncLayer<Words>) -> GameStateCell<[u32; 3]> {
+    match layer.save_current_state() {
+        GgrsRequest::SaveGameState { cell, .. } => cell,
+        GgrsRequest::LoadGameState { .. } => panic!("it loads"),
+    }
 }
 
 /// Two seats, two frames on, both guessed as 0. The second seat's mismatch is at 1.
@@ -226,6 +234,23 @@ fn layer_a_status_list_longer_with_the_rest_gone() {
 }
 
 #[test]
+fn layer_a_status_list_longer_with_the_rest_there() {
+    panics("index out of bounds", || layer(1, 2).synchronized_inputs(&[on(), on()]));
+}
+
+#[test]
+fn layer_confirmed_inputs_of_another_number_of_statuses() {
+    let mut layer = layer(2, 2);
+    remote(&mut layer, 0, 0, 5);
+    remote(&mut layer, 1, 0, 6);
+    let (first, second, blank) = (PlayerInput::new(0, 5), PlayerInput::new(0, 6), PlayerInput::new(-1, 0));
+    assert_eq!(layer.confirmed_inputs(0, &[]), []);
+    assert_eq!(layer.confirmed_inputs(0, &[on()]), [first]);
+    assert_eq!(layer.confirmed_inputs(0, &[on(), on(), gone()]), [first, second, blank]);
+    panics("index out of bounds", || layer.confirmed_inputs(0, &[on(), on(), on()]));
+}
+
+#[test]
 fn layer_a_request_that_a_later_seat_refuses() {
     let mut layer = layer(2, 0);
     layer.synchronized_inputs(&[on(), on()]);
@@ -250,6 +275,70 @@ fn layer_loads_out_of_the_window_or_of_another_frame() {
     layer.advance_frame();
     panics("outside of prediction window", || layer.load_frame(0));
     assert_eq!(layer.current_frame(), 2);
+}
+
+/// The last saved frame is set at once, and the cell holds what it held until the caller fills it.
+#[test]
+fn layer_a_save_hands_out_a_cell() {
+    let mut layer = layer(1, 2);
+    let cell = saved_cell(&mut layer);
+    assert_eq!((layer.last_saved_frame(), cell.frame()), (0, NULL_FRAME));
+    assert!(layer.saved_state_by_frame(0).is_none());
+    panics("frame != NULL_FRAME", || cell.save(NULL_FRAME, Some([1, 2, 3]), None));
+    // nothing holds it to the frame that was saved
+    cell.save(7, Some([1, 2, 3]), Some(9));
+    assert_eq!((cell.frame(), cell.load(), cell.checksum()), (7, Some([1, 2, 3]), Some(9)));
+}
+
+#[test]
+fn layer_a_cell_is_shared() {
+    let mut layer = layer(1, 0);
+    let kept = saved_cell(&mut layer);
+    kept.save(0, Some([1, 1, 1]), None);
+    layer.advance_frame();
+    saved_cell(&mut layer).save(1, Some([2, 2, 2]), None);
+    assert_eq!((kept.frame(), kept.load()), (1, Some([2, 2, 2])));
+    *kept.data().expect("a state").as_mut_dangerous() = [3, 3, 3];
+    assert_eq!(layer.saved_state_by_frame(1).and_then(|cell| cell.load()), Some([3, 3, 3]));
+}
+
+#[test]
+fn layer_a_saved_state_that_is_none() {
+    let mut layer = layer(1, 1);
+    assert!(layer.saved_state_by_frame(0).is_none());
+    saved_cell(&mut layer).save(0, None, None);
+    assert_eq!(layer.saved_state_by_frame(0).map(|cell| cell.load()), Some(None));
+    layer.advance_frame();
+    match layer.load_frame(0) {
+        GgrsRequest::LoadGameState { cell, frame } => assert_eq!((frame, cell.load()), (0, None)),
+        GgrsRequest::SaveGameState { .. } => panic!("it saves"),
+    }
+}
+
+#[test]
+fn layer_latest_hands_out_a_cell() {
+    let mut layer = layer(1, 2);
+    saved_cell(&mut layer).save(0, Some([4, 4, 4]), None);
+    assert_eq!(layer.latest_saved_state_in_range(0, 9).and_then(|cell| cell.load()), Some([4, 4, 4]));
+    assert!(layer.latest_saved_state_in_range(1, 9).is_none());
+    assert!(layer.latest_saved_state_in_range(9, 0).is_none());
+}
+
+/// Neither a stored word, nor one out of turn, nor a tossed one.
+#[test]
+fn layer_a_remote_input_answers_nothing() {
+    let mut layer = layer(1, 0);
+    for frame in [0, 2, 1] {
+        let () = layer.add_remote_input(0, PlayerInput::new(frame, 5));
+    }
+    assert_eq!(layer.queues()[0].newest(), 1);
+}
+
+#[test]
+fn layer_a_delay_out_of_range() {
+    let mut layer = layer(1, 0);
+    layer.set_frame_delay(0, 61);
+    assert_eq!(layer.add_local_input(0, PlayerInput::new(0, 5)), 61);
 }
 
 #[test]

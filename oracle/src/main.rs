@@ -1,4 +1,5 @@
-//! The oracle: reads a cue sheet on standard input, makes its calls on the original ggrs code, writes the answers.
+//! The oracle: reads a cue sheet on standard input, makes its calls on the original ggrs code, writes the answers. With the word
+//! `large` it takes lines of any length, and lends as much as a line asks for.
 
 use std::io::{self, Read, Write};
 
@@ -35,7 +36,7 @@ mod network {
 }
 use host::{Config, Frame, GgrsRequest, InputPredictor, InputStatus, PlayerHandle, NULL_FRAME};
 
-use sheet::{Answers, Fields, LONGEST};
+use sheet::{bound, Answers, Fields, LONGEST};
 
 struct Oracle {
     desk: desk::Desk,
@@ -61,7 +62,7 @@ impl Oracle {
 
     fn line(&mut self, line: &[u8], out: &mut Answers) {
         let mut fields = Fields::of(line);
-        if line.len() <= LONGEST {
+        if line.len() <= bound(LONGEST) as usize {
             let Some(name) = fields.next() else { return };
             if name[0] == b'#' {
                 return;
@@ -77,6 +78,9 @@ impl Oracle {
 
 fn main() -> io::Result<()> {
     refusal::silence();
+    if std::env::args().nth(1).as_deref() == Some("large") {
+        sheet::lift_bounds();
+    }
     let mut sheet = Vec::new();
     io::stdin().lock().read_to_end(&mut sheet)?;
     let mut oracle = Oracle {

@@ -1,6 +1,23 @@
 //! The lines of a cue sheet: fields read, answers written.
 
-pub const LONGEST: usize = 4096;
+use std::sync::atomic::{AtomicBool, Ordering};
+
+pub const LONGEST: u32 = 4096;
+
+static LIFTED: AtomicBool = AtomicBool::new(false);
+
+/// From here on lines, and what is lent to a call, may be of any length.
+pub fn lift_bounds() {
+    LIFTED.store(true, Ordering::Relaxed);
+}
+
+/// A bound of cue sheets, as far as it is not lifted.
+pub fn bound(most: u32) -> u32 {
+    if LIFTED.load(Ordering::Relaxed) {
+        return u32::MAX;
+    }
+    most
+}
 
 /// The fields of one line. Each reader takes the next field, and gives None where it is missing or not of its kind.
 pub struct Fields<'a> {

@@ -14,6 +14,10 @@ pub fn sheet(sheet: &mut Sheet, seed: u64) {
     let mut turn = seed.wrapping_mul(60_000);
     while !sheet.full() {
         match sheet.random.below(10) {
+            turn if sheet.random.far => match turn % 2 {
+                0 => far_pack(sheet),
+                _ => far_unpack(sheet),
+            },
             0 | 1 => short_pack(sheet, turn),
             2 | 3 => short_unpack(sheet, turn),
             4..=6 => random_pack(sheet),
@@ -131,6 +135,50 @@ fn random_pack(sheet: &mut Sheet) {
         misstate(random, &mut lengths);
     }
     pack(sheet, room, reference, pending, &lengths);
+}
+
+/// Lengths near 65,535. As many bytes do not go into a line, so what is said of them is 18; sums that would be right modulo
+/// 65,536 or a little above the pending bytes are among them.
+fn far_pack(sheet: &mut Sheet) {
+    let random = &mut sheet.random;
+    let reference = reference(random);
+    let pending = random.below(600);
+    let many = random.pick(&[1, 1, 2, 3, 64, 256]);
+    let mut lengths: Vec<u32> = (0..many).map(|_| 65535 - random.below(4) as u32).collect();
+    match random.below(4) {
+        // one length more, which makes the sum right modulo 65,536
+        0 | 1 => lengths.push((pending as u32).wrapping_sub(lengths.iter().sum()) & 0xffff),
+        2 => lengths.push(pending as u32),
+        _ => {}
+    }
+    let room = near(random, (sum(&lengths) + 2 * lengths.len()).min(MOST_ROOM), MOST_ROOM);
+    let pending = bytes(random, pending);
+    pack(sheet, room, reference, pending, &lengths);
+}
+
+/// A packet whose last length is near 65,535, or a little more than the bytes that are left, or just these.
+fn far_unpack(sheet: &mut Sheet) {
+    let random = &mut sheet.random;
+    let reference = reference(random);
+    let mut packet = Vec::new();
+    let mut lengths = lengths(random, 200);
+    lengths.truncate(3);
+    for &length in &lengths {
+        packet.extend((length as u16).to_le_bytes());
+        packet.extend(bytes(random, length as usize));
+    }
+    let left = random.pick(&[0, 1, 255, 256, 257, 1000, 1700]);
+    let said = match random.below(4) {
+        0 => left + random.below(3),
+        1 => 65536 - 1 - random.below(4),
+        2 => left + 256,
+        _ => 256 * random.below(256) + left % 256,
+    };
+    packet.extend((said as u16).to_le_bytes());
+    packet.extend(bytes(random, left));
+    let room = near(random, sum(&lengths) + left, MOST_ROOM);
+    let lent = near(random, lengths.len() + 1, MOST_LENGTHS);
+    unpack(sheet, room, lent, reference, packet);
 }
 
 /// Makes the lengths say something else than the pending bytes.

@@ -124,6 +124,29 @@ pub fn sheet(sheet: &mut Sheet) {
     }
 }
 
+/// One desk for the whole sheet: some frames of a scene, then a run of frames with a word from each seat.
+pub fn long(sheet: &mut Sheet) {
+    let random = &mut sheet.random;
+    let (limit, predictor) = (random.pick(&[0, 2, 8, 15]), random.below(3) as u32);
+    let delays = (0..1 + random.below(2)).map(|_| random.below(4) as u32).collect();
+    let mut desk = Desk::new(&Setup { limit, predictor, delays }.call(sheet, "desk", false, |_| 0));
+    while !sheet.full() {
+        let scene = Scene::new(&mut sheet.random, &desk);
+        for _ in 0..12 {
+            tick(sheet, &mut desk, &scene);
+        }
+        for _ in 0..100 {
+            for seat in 0..desk.seats.len() {
+                if desk.seats[seat].newest <= desk.current + 20 {
+                    take_next(sheet, &mut desk, seat, &scene);
+                }
+            }
+            sheet.call("advance", &[]);
+            desk.advance();
+        }
+    }
+}
+
 fn delay(random: &mut Random) -> u32 {
     match random.below(4) {
         0 => 0,
@@ -211,6 +234,7 @@ fn look(sheet: &mut Sheet, desk: &Desk) {
     let random = &mut sheet.random;
     let frame = match random.below(12) {
         0 => random.limit(),
+        1..=4 if random.far => random.limit(),
         1 | 2 => desk.known() + random.within(-1, 1),
         3 => desk.lowest_wrong().unwrap_or(desk.current) + random.within(-1, 0),
         4 => desk.current - 1 - desk.limit + random.within(-1, 1),

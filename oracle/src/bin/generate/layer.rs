@@ -94,7 +94,7 @@ impl Scene {
                 _ => random.pick(&[2, 5, 10, 15]),
             },
             slips: random.pick(&[2, 5, 20, 20, 100]),
-            wild: random.pick(&[5, 30, 100, 100]),
+            wild: random.wild(&[5, 30, 100, 100]),
             ahead: random.pick(&[0, 0, 1, 3, 20, 140]),
             lazy: random.pick(&[1, 1, 3, 12]),
             confirms: random.pick(&[1, 2, 2, 4, 200]),
@@ -121,6 +121,45 @@ pub fn sheet(sheet: &mut Sheet) {
             tick(sheet, &mut layer, &scene);
             left = if layer.lost { 0 } else { left - 1 };
         }
+    }
+}
+
+/// One layer for the whole sheet: some ticks of a scene, then a run of frames with words alone.
+pub fn long(sheet: &mut Sheet) {
+    let random = &mut sheet.random;
+    let (limit, predictor) = (random.pick(&[0, 2, 8, 15]), random.below(3) as u32);
+    let delays = (0..1 + random.below(2)).map(|_| random.below(4) as u32).collect();
+    let mut layer = Layer::new(&Setup { limit, predictor, delays }.call(sheet, "layer", false, |_| 0));
+    while !sheet.full() {
+        let scene = Scene { rash: false, ..Scene::new(&mut sheet.random) };
+        for _ in 0..8 {
+            tick(sheet, &mut layer, &scene);
+        }
+        reset(sheet, &mut layer);
+        for turn in 0..100 {
+            run_on(sheet, &mut layer);
+            if turn % 20 == 0 && layer.known() > 0 {
+                sheet.call("l.confirm", &[Frame(layer.known()), Text("0".into())]);
+                let capped = layer.capped(layer.known(), false);
+                layer.seats.iter_mut().for_each(|seat| seat.discard(capped - 1));
+            }
+        }
+    }
+}
+
+/// A frame with its words, and no request, so that no guess stands.
+fn run_on(sheet: &mut Sheet, layer: &mut Layer) {
+    for seat in 0..layer.seats.len() {
+        let state = &mut layer.seats[seat];
+        if state.newest > layer.current + 20 || state.held() > 100 {
+            continue;
+        }
+        let (frame, word) = (state.user + 1, input_word(&mut sheet.random, state));
+        sheet.call("l.remote", &[Number(seat as u32), Frame(frame), Word(word)]);
+        state.add(frame, word);
+    }
+    if layer.current <= layer.known() + layer.limit {
+        advance(sheet, layer);
     }
 }
 

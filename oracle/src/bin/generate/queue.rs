@@ -33,7 +33,7 @@ impl Scene {
             depth: random.pick(&[1, 2, 5, 30, 90, 120, 126, 127, 128, 129]),
             lead: random.pick(&[0, 1, 3, 10, 40]),
             delays: random.pick(&[4, 20, 20, 100, 10000]),
-            wild: random.pick(&[5, 40, 40, 200]),
+            wild: random.wild(&[5, 40, 40, 200]),
             rash: random.once_in(12),
         }
     }
@@ -52,6 +52,30 @@ pub fn sheet(sheet: &mut Sheet) {
         while left > 0 && !sheet.full() {
             step(sheet, &mut seat, &scene);
             left = if seat.lost { left.min(6) } else { left } - 1;
+        }
+    }
+}
+
+/// One queue for the whole sheet: some steps of a scene, then a run of words alone.
+pub fn long(sheet: &mut Sheet) {
+    let (predictor, delay) = (sheet.random.below(3) as u32, sheet.random.below(5) as u32);
+    sheet.call("queue", &[Number(predictor), Number(delay)]);
+    let mut seat = Seat::new(predictor, delay);
+    while !sheet.full() {
+        let scene = Scene { rash: false, ..Scene::new(&mut sheet.random) };
+        for _ in 0..60 {
+            step(sheet, &mut seat, &scene);
+        }
+        reset(sheet, &mut seat);
+        for _ in 0..200 {
+            if seat.held() > 64 {
+                let frame = seat.newest - sheet.random.within(1, 40);
+                sheet.call("q.discard", &[Frame(frame)]);
+                seat.discard(frame);
+            }
+            let (frame, word) = (seat.user + 1, input_word(&mut sheet.random, &seat));
+            sheet.call("q.add", &[Frame(frame), Word(word)]);
+            seat.add(frame, word);
         }
     }
 }

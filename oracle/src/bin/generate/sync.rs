@@ -26,6 +26,20 @@ pub fn sheet(sheet: &mut Sheet) {
     }
 }
 
+/// The same windows for the whole sheet, frame after frame.
+pub fn long(sheet: &mut Sheet) {
+    sheet.call("sync", &[]);
+    let mut frame = 0;
+    while !sheet.full() {
+        let size = sheet.random.below(8);
+        for _ in 0..40 {
+            advance(sheet, frame, size);
+            frame += 1;
+        }
+        ask(sheet);
+    }
+}
+
 fn ask(sheet: &mut Sheet) {
     for name in ["s.average", "s.averages", "s.reading"] {
         if !sheet.random.once_in(3) {
