@@ -41,8 +41,8 @@ extern "C" {
         slots_length: usize,
         served: *mut u32,
         served_length: usize,
-        standings: *mut u32,
-        standings_length: usize,
+        statuses: *mut u32,
+        statuses_length: usize,
         said: *mut u32,
         said_length: usize,
     ) -> u32;
@@ -70,7 +70,7 @@ extern "C" {
         head: u32,
         kind: u32,
         seal: u32,
-    );
+    ) -> u32;
 }
 
 /// Lists as long as the face asks for: four seats of eight numbers and 128 words, sixteen slots of sixteen.
@@ -80,7 +80,7 @@ pub struct Lent {
     words: [u32; 512],
     slots: [u32; 256],
     served: [u32; SEATS],
-    standings: [u32; SEATS],
+    statuses: [u32; SEATS],
     said: [u32; 2],
 }
 
@@ -92,7 +92,7 @@ impl night::Desk for Lent {
             words: [0; 512],
             slots: [0; 256],
             served: [0; SEATS],
-            standings: [0; SEATS],
+            statuses: [0; SEATS],
             said: [0; 2],
         };
         let delays = [0; SEATS];
@@ -150,8 +150,8 @@ impl night::Desk for Lent {
                 self.slots.len(),
                 self.served.as_mut_ptr(),
                 self.served.len(),
-                self.standings.as_mut_ptr(),
-                self.standings.len(),
+                self.statuses.as_mut_ptr(),
+                self.statuses.len(),
                 self.said.as_mut_ptr(),
                 self.said.len(),
             )
@@ -189,7 +189,7 @@ impl Layer {
 
     pub fn request(&mut self) -> [u32; SEATS] {
         let lists = black_box(&mut self.lists);
-        // SAFETY: a fresh layer with words for its frame, and the lists are as long as the promise asks
+        // SAFETY: a fresh layer with words for its frame; a list that is too short is answered by 20
         let no = unsafe {
             layer_request(
                 self.state.as_ptr(),
@@ -204,8 +204,8 @@ impl Layer {
                 self.last.len(),
                 lists.served.as_mut_ptr(),
                 lists.served.len(),
-                lists.standings.as_mut_ptr(),
-                lists.standings.len(),
+                lists.statuses.as_mut_ptr(),
+                lists.statuses.len(),
             )
         };
         assert_eq!(no, 0);
@@ -214,10 +214,9 @@ impl Layer {
 
     pub fn save(&mut self, head: u32) {
         let slots = black_box(&mut self.lists.slots);
-        // SAFETY: a fresh layer, and the lists are as long as the promise asks
-        unsafe {
-            layer_save(self.state.as_mut_ptr(), self.state.len(), slots.as_mut_ptr(), slots.len(), head, 0, 0);
-        }
+        // SAFETY: a fresh layer; a list that is too short is answered by 20
+        let no = unsafe { layer_save(self.state.as_mut_ptr(), self.state.len(), slots.as_mut_ptr(), slots.len(), head, 0, 0) };
+        assert_eq!(no, 0);
     }
 
     /// Frame 0's slot is the first: its frame, then the console.

@@ -3,11 +3,11 @@ use Prim.Native.Nat.{ℕ, zero, suc, _+_, _%_, _/_, _<_, _≤_, min}
 use native.Mathlib.Omega.{arith}
 use native.Mathlib.Numerals.{add-one}
 use native.Mathlib.Nat.{div-add-mod, mod-lt, mul-le-mul-left}
-use mathlib.Core.Path.{_≡_, refl, ap, sym, _∙_}
+use mathlib.Core.Path.{_≡_, refl, ap, ap₂, sym, _∙_}
 use mathlib.Core.Logic.{_⊎_, inl, inr, ⊎-elim, _≢_}
 use mathlib.Core.List.{List, [], _∷_}
 use Prim.{absurd}
-use lib.ListN.{length, getD}
+use lib.ListN.{length, getD, set}
 use Rattle.frame_info.proofs.Split.{split-eqb, split-ltb}
 use Rattle.console.specs.declared.Console.{Console}
 use Rattle.sync_layer.specs.Lists.{writeRow, lower, lowestOf}
@@ -16,6 +16,13 @@ use Rattle.sync_layer.specs.Slots.{maxLimit, slotWords, servedFrom, slotOf, slo
 use Rattle.sync_layer.specs.Whole.{SlotRoom}
 use Rattle.sync_layer.proofs.Rows.{row-long, row-same, row-other}
 use Rattle.desk.specs.Lists.{leastOf}
+
+-- a row of the same values
+pub row-agree : {A : Type 0} (n : ℕ) (l : List A) (base : ℕ) (g h : ℕ → A) → ((s : ℕ) → s < n → g s ≡ h s) → writeRow n l base g ≡ writeRow n l base h
+unfolding writeRow
+row-agree zero l base g h e = refl
+row-agree {A} (suc n) l base g h e =
+    ap₂ (λ (x : List A) (y : A). set x (base + n) y) (row-agree n l base g h (λ s x. e s (omega arith))) (e n (omega arith))
 
 -- the least and the lowest ---------------------------------------------------------------------------------------------------------
 

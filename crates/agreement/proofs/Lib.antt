@@ -10,5 +10,7 @@ pub mod Refusals
 pub mod Overwrite
 pub mod Claims
 pub mod Reached
-pub mod Compared
+pub mod Seen
+pub mod ReachedValue
 pub mod Samples
+pub mod Refuted

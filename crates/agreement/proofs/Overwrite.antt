@@ -1,4 +1,4 @@
--- Every frame served is settled before its slot goes to another frame. Assumes nothing.
+-- Every frame served is settled before its slot goes to another frame; and the desk goes on. Assumes nothing.
 use Prim.Native.Nat.{ℕ, zero, suc, _+_, _-_, _*_, _%_, _/_, _<_, _≤_, min}
 use native.Mathlib.Omega.{arith}
 use native.Mathlib.Numerals.{add-one}
@@ -15,7 +15,7 @@ use Rattle.frame_info.proofs.Split.{split-eqb, split-leb}
 use Rattle.console.specs.declared.Console.{Console}
 use Rattle.sync_layer.specs.Slots.{slotWords, slotAt}
 use Rattle.desk.specs.Lists.{leastOf}
-use Rattle.desk.specs.Desk.{Desk, queueOf, knownOf, takeAnswer, taken, take, oneFrame, settle, advanceAnswer, advance}
+use Rattle.desk.specs.Desk.{Desk, queueOf, knownOf, mismatchOf, takeAnswer, taken, take, oneFrame, settle, advanceAnswer, advance}
 use Rattle.desk.specs.Settled.{Settles}
 use Rattle.desk.specs.Runs.{Call, take-call, settle-call, advance-call, show-call, log-call, after}
 use Rattle.agreement.specs.Statement.{Held, Keeps}
@@ -63,21 +63,39 @@ module _ (step : Console → List ℕ → Console) (p : ℕ → ℕ) (n : ℕ) {
   r = settle-done step p n L d s h
 
   -- a settle leaves K as it was
-  settle-known : knownOf e ≡ knownOf d
+  pub settle-known : knownOf e ≡ knownOf d
   settle-known =
-      ap (λ (m : ℕ). leastOf (m - 1) (λ t. queueOf e t .added)) (r .shape .seats ∙ sym (s .seats))
-      ∙ least-same (d .state .seats - 1) (λ t. queueOf e t .added) (λ t. queueOf d t .added) (λ t x. r .kept t (omega (arith, s .seats, s .one)) .added)
+      ap (λ (m : ℕ). leastOf (m - 1) (λ t. queueOf e t .«last_added_count»)) (r .shape .seats ∙ sym (s .seats))
+      ∙ least-same (d .state .seats - 1) (λ t. queueOf e t .«last_added_count») (λ t. queueOf d t .«last_added_count») (λ t x. r .kept t (omega (arith, s .seats, s .one)) .«last_added_count»)
 
-  -- the frame limit + 1 back is settled by the settle of an advance that is not refused
-  oldest-settled : advanceAnswer d ≡ 0 → (f : ℕ) → f + suc L ≡ d .state .current → Settles e f
-  oldest-settled a f k =
-      let o = allowed d a in
+  -- and leaves no mismatch
+  pub settle-quiet : mismatchOf e ≡ 0
+  settle-quiet = quiet-none step p n L e (r .shape) (r .quiet)
+
+  pub settle-stays : e .state .current ≡ d .state .current
+  settle-stays = r .current
+
+  -- so what is known is settled by a settle
+  pub window-settled : (f : ℕ) → f < d .state .current → d .state .current ≤ f + 1 + L → f < knownOf d → Settles e f
+  window-settled f x y z =
       record {
         past = omega (arith, r .current);
         slot = omega (arith, r .current, r .shape .limit);
-        known = omega (arith, settle-known, o .near);
-        right = inl (quiet-none step p n L e (r .shape) (r .quiet));
+        known = omega (arith, settle-known);
+        right = inl settle-quiet;
       }
+
+  pub advance-goes : advanceAnswer d ≡ 0 → advance step p d .state .current ≡ d .state .current + 1
+  unfolding advance
+  advance-goes a =
+      ⊎-elim
+      (λ b. simp (b .1) (omega (arith, framed-at step p n L e (r .shape) .current, r .current)))
+      (λ b. absurd (b .0 a))
+      (split-eqb (advanceAnswer d) 0)
+
+  -- the frame limit + 1 back is settled by the settle of an advance that is not refused
+  oldest-settled : advanceAnswer d ≡ 0 → (f : ℕ) → f + suc L ≡ d .state .current → Settles e f
+  oldest-settled a f k = let o = allowed d a in window-settled f (omega arith) (omega arith) (omega (arith, o .near))
 
   pub window-held : (f : ℕ) → f < d .state .current → d .state .current ≤ f + suc L → Held d f
   window-held f x y = record { served = x; holds = h .window .held f (omega arith) x ∙ sym (add-one f) }

@@ -1,33 +1,32 @@
 -- Every run of the desk is sound; what a settled frame shows; demand 3. Assumes nothing.
-use Prim.Native.Nat.{ℕ, zero, suc, _+_, _-_, _*_, _<_, _≤_}
+use Prim.Native.Nat.{ℕ, suc, _+_, _-_, _*_, _<_, _≤_}
 use native.Mathlib.Omega.{arith}
 use mathlib.Core.Path.{_≡_, refl, ap, sym, _∙_, fun-ext}
-use mathlib.Core.Logic.{_⊎_, inl, inr, ⊎-elim, _≢_}
+use mathlib.Core.Logic.{_⊎_, inl, ⊎-elim, _≢_}
 use mathlib.Core.List.{List, [], _∷_, _++_, append-assoc, append-nil}
-use mathlib.Core.Bool.{true, false}
 use Prim.{absurd}
-use lib.ListN.{length, getD, length-set}
+use lib.ListN.{length, getD}
 use lib.Dec.{eqb}
-use borrow.Author.Tests.{eq-eqb, ne-eqb, lt-ltb, le-leb, ltb-false}
+use borrow.Author.Tests.{eq-eqb, ne-eqb}
 use Rattle.frame_info.specs.Choice.{pick}
-use Rattle.frame_info.specs.Frame.{lastCount, maxDelay, countOf}
-use Rattle.frame_info.proofs.Split.{split-eqb, split-ltb, split-leb, split-bool}
+use Rattle.frame_info.specs.Frame.{lastCount, countOf}
+use Rattle.frame_info.proofs.Split.{split-eqb}
 use Rattle.console.specs.declared.Console.{Console}
 use Rattle.console.specs.Step.{start}
 use Rattle.input_queue.specs.declared.QueueState.{QueueState}
 use Rattle.input_queue.specs.Queue.{freshState, add}
 use Rattle.input_queue.specs.Ring.{addWords}
-use Rattle.input_queue.specs.Calls.{overfull}
 use Rattle.input_queue.specs.Runs.{placed}
-use Rattle.input_queue.proofs.Kept.{add-long}
+use Rattle.input_queue.proofs.Kept.{add-long, not-over}
 use Rattle.sync_layer.specs.Seats.{ringOf, seatAt, mapSeats}
 use Rattle.sync_layer.specs.Slots.{clearSlots}
-use Rattle.sync_layer.specs.Calls.{allLate, openedSeats, openedSlots}
-use Rattle.sync_layer.specs.Calls as layer
+use Rattle.sync_layer.specs.Calls.{openedSeats, openedSlots}
+use Rattle.sync_layer.proofs.Kept.{clear-long}
 use Rattle.sync_layer.proofs.Seating.{seat-long, seat-same, seat-other, map-long, map-at}
 use Rattle.desk.specs.declared.DeskState.{DeskState}
 use Rattle.desk.specs.Desk.{Desk, Setup, queueOf, takeAnswer, taken, take, setupState, setupOf}
 use Rattle.desk.specs.Runs.{Call, take-call, settle-call, advance-call, show-call, log-call, after, runFrom, run, gained, acceptedFrom, accepted, Fit}
+use Rattle.desk.proofs.Kept.{take-accepts, fit-fits}
 use Rattle.agreement.specs.Reference.{stateBefore}
 use Rattle.agreement.proofs.Sound.{ref-same, Sound, stepping}
 use Rattle.agreement.proofs.Steps.{wordsOf, viewOf, Shape, state-now, Next, advance-next, settle-next}
@@ -36,10 +35,10 @@ use Rattle.agreement.proofs.Stored.{grown-placed, storedFrom, stored, s
 
 -- a queue and the words that it accepted
 pub record Counted (delay : ℕ) (l : List ℕ) (q : QueueState) : Type 0 where
-  pub delay-is : q .delay ≡ delay
-  pub user : q .user ≡ length l
-  pub added : q .added ≡ length (stored delay l)
-  pub few : q .user ≤ lastCount
+  pub delay-is : q .«frame_delay» ≡ delay
+  pub «last_user_count» : q .«last_user_count» ≡ length l
+  pub «last_added_count» : q .«last_added_count» ≡ length (stored delay l)
+  pub few : q .«last_user_count» ≤ lastCount
 
 -- a desk with limit L and the words A that its seats accepted
 pub record Good (step : Console → List ℕ → Console) (p : ℕ → ℕ) (n L : ℕ) (delay : ℕ → ℕ) (A : ℕ → List ℕ) (d : Desk) : Type 0 where
@@ -47,42 +46,6 @@ pub record Good (step : Console → List ℕ → Console) (p : ℕ → ℕ) (n L
   pub early : d .state .current < lastCount
   pub counted : (s : ℕ) → s < n → Counted (delay s) (A s) (queueOf d s)
   pub sound : Sound n L (stepping step) p (λ s. readAt (stored (delay s) (A s))) (viewOf d)
-
--- a take that is not refused
-pub record Fits (d : Desk) (s n : ℕ) : Type 0 where
-  pub seat : s < d .state .seats
-  pub some : n ≢ 0
-  pub early : n ≤ lastCount
-  pub next : n - 1 ≡ queueOf d s .user
-  pub room : (n - 1 + queueOf d s .delay < queueOf d s .added) ⊎ (n - 1 + queueOf d s .delay < queueOf d s .oldest + 128)
-
--- what does not overfill a queue is tossed, or has room
-pub not-over : (q : QueueState) (n : ℕ) → n ≢ 0 → overfull q n ≡ false → (n - 1 + q .delay < q .added) ⊎ (n - 1 + q .delay < q .oldest + 128)
-not-over q n z o =
-    ⊎-elim
-    (λ a. inl (omega (arith, a .0, z)))
-    (λ a. inr (omega (arith, z, ltb-false (q .oldest + 128) (n + q .delay) (simp (a .1) at o))))
-    (split-leb (n + q .delay) (q .added))
-
-pub fits : (d : Desk) (s n : ℕ) → takeAnswer d s n ≡ 0 → Fits d s n
-unfolding takeAnswer
-fits d s n e =
-    ⊎-elim
-    (λ a. let z : _≡_ {A = ℕ} 2 0 = simp (a .1) at e in absurd (omega arith))
-    (λ a. ⊎-elim
-    (λ b. let z : _≡_ {A = ℕ} 7 0 = simp (a .1, b .1) at e in absurd (omega arith))
-    (λ b. ⊎-elim
-    (λ c. let z : _≡_ {A = ℕ} 6 0 = simp (a .1, b .1, c .1) at e in absurd (omega arith))
-    (λ c. ⊎-elim
-    (λ x. ⊎-elim
-    (λ y. let z : _≡_ {A = ℕ} 4 0 = simp (a .1, b .1, c .1, x .1, y) at e in absurd (omega arith))
-    (λ y. record { seat = a .0; some = b .0; early = c .0; next = x .0; room = not-over (queueOf d s) n (b .0) y })
-    (split-bool (overfull (queueOf d s) n)))
-    (λ x. let z : _≡_ {A = ℕ} 3 0 = simp (a .1, b .1, c .1, x .1) at e in absurd (omega arith))
-    (split-eqb (n - 1) (queueOf d s .user)))
-    (split-ltb lastCount n))
-    (split-eqb n 0))
-    (split-leb (d .state .seats) s)
 
 module _ (d : Desk) (t f w : ℕ) where
   taken-same : (t + 1) * 8 ≤ length (d .seats) → queueOf (taken d t f w) t ≡ add (wordsOf (d .words) t) (queueOf d t) f w
@@ -118,7 +81,7 @@ module _ {step : Console → List ℕ → Console} {p : ℕ → ℕ} {n L : ℕ}
   pub taken-good : Good step p n L delay A d → (t w : ℕ) (A′ : ℕ → List ℕ)
       → t < n
       → length (A t) < lastCount
-      → (length (A t) + queueOf d t .delay < queueOf d t .added) ⊎ (length (A t) + queueOf d t .delay < queueOf d t .oldest + 128)
+      → (length (A t) + queueOf d t .«frame_delay» < queueOf d t .«last_added_count») ⊎ (length (A t) + queueOf d t .«frame_delay» < queueOf d t .oldest + 128)
       → A′ t ≡ A t ++ (w ∷ [])
       → ((s : ℕ) → s ≢ t → A′ s ≡ A s)
       → Good step p n L delay A′ (taken d t (length (A t)) w)
@@ -128,21 +91,21 @@ module _ {step : Console → List ℕ → Console} {p : ℕ → ℕ} {n L : ℕ}
     early = g .early;
     counted = λ s sn. ⊎-elim
         (λ e. rw (e .0, here)
-        (record { delay-is = ad .delay ∙ k .delay-is; user = ad .user ∙ sym (snoc-length (A t) w) ∙ ap length (sym new); added = ad .added ∙ ap length (sym now); few = omega (arith, ad .user) }))
+        (record { delay-is = ad .«frame_delay» ∙ k .delay-is; «last_user_count» = ad .«last_user_count» ∙ sym (snoc-length (A t) w) ∙ ap length (sym new); «last_added_count» = ad .«last_added_count» ∙ ap length (sym now); few = omega (arith, ad .«last_user_count») }))
         (λ e. rw (old s (e .0), taken-other d t f w s (e .0)) (g .counted s sn))
         (split-eqb s t);
     sound = record {
       floor = g .sound .floor;
       low = g .sound .low;
       seat = λ s sn. ⊎-elim
-          (λ e. rw (e .0, here, now) (seat-add z i a q (d .words) t f w (k .added) (g .sound .seat t tn) (omega (arith, tn, g .shape .few, g .shape .words)) room))
+          (λ e. rw (e .0, here, now) (seat-add z i a q (d .words) t f w (k .«last_added_count») (g .sound .seat t tn) (omega (arith, tn, g .shape .few, g .shape .words)) room))
           (λ e. rw (old s (e .0), taken-other d t f w s (e .0), others s (e .0)) (g .sound .seat s sn))
           (split-eqb s t);
       window = record {
         chain = g .sound .window .chain;
         base = g .sound .window .base
             ∙ ref-same n (stepping step) (λ s. readAt (stored (delay s) (A s))) (λ s. readAt (stored (delay s) (A′ s))) (d .state .current - suc L) (λ s x sn lt. ⊎-elim
-            (λ e. rw (e .0, now) (sym (grown-placed a (f + q .delay) w .same x (omega (arith, lt, g .sound .seat t tn .store .near, k .added)))))
+            (λ e. rw (e .0, now) (sym (grown-placed a (f + q .«frame_delay») w .same x (omega (arith, lt, g .sound .seat t tn .store .near, k .«last_added_count»)))))
             (λ e. rw (old s (e .0)))
             (split-eqb s t));
         held = g .sound .window .held;
@@ -162,10 +125,10 @@ module _ {step : Console → List ℕ → Console} {p : ℕ → ℕ} {n L : ℕ}
       k : Counted (delay t) (A t) q
       k = g .counted t tn
 
-      ad : Added q (add (wordsOf (d .words) t) q f w) (placed a (f + q .delay) w) f
-      ad = add-added q a (wordsOf (d .words) t) f w (k .added)
+      ad : Added q (add (wordsOf (d .words) t) q f w) (placed a (f + q .«frame_delay») w) f
+      ad = add-added q a (wordsOf (d .words) t) f w (k .«last_added_count»)
 
-      now : stored (delay t) (A′ t) ≡ placed a (f + q .delay) w
+      now : stored (delay t) (A′ t) ≡ placed a (f + q .«frame_delay») w
       now = ap (stored (delay t)) new ∙ stored-snoc (delay t) (A t) w ∙ ap (λ (x : ℕ). placed a (f + x) w) (sym (k .delay-is))
 
       here : queueOf (taken d t f w) t ≡ add (wordsOf (d .words) t) q f w
@@ -180,12 +143,12 @@ module _ {step : Console → List ℕ → Console} {p : ℕ → ℕ} {n L : ℕ}
   take-good g t k w =
       ⊎-elim
       (λ a.
-      let h = fits d t k (a .0) in
-      let tn : t < n = omega (arith, h .seat, g .shape .seats) in
+      let h = take-accepts d t k (a .0) in
+      let tn : t < n = omega (arith, h .here, g .shape .seats) in
       let c = g .counted t tn in
-      let e : k - 1 ≡ length (A t) = h .next ∙ c .user in
+      let e : k - 1 ≡ length (A t) = h .next ∙ c .«last_user_count» in
       simp (a .1, e)
-      (taken-good g t w (λ s. A s ++ pick (eqb t s) (w ∷ []) []) tn (omega (arith, h .early, h .some, e)) (rw e at (h .room))
+      (taken-good g t w (λ s. A s ++ pick (eqb t s) (w ∷ []) []) tn (omega (arith, h .low, h .some, e)) (rw e at (not-over (queueOf d t) (k - 1) (h .fits)))
       (simp (eq-eqb t t refl))
       (λ s x. simp (ne-eqb t s (λ o. x (sym o))) (append-nil (A s)))))
       (λ a. simp (a .1, append-nil) g)
@@ -199,10 +162,10 @@ module _ {step : Console → List ℕ → Console} {p : ℕ → ℕ} {n L : ℕ}
         let k = x .kept s sn in
         let c = g .counted s sn in
         record {
-          delay-is = k .delay ∙ c .delay-is;
-          user = k .user ∙ c .user;
-          added = k .added ∙ c .added;
-          few = omega (arith, k .user, c .few);
+          delay-is = k .«frame_delay» ∙ c .delay-is;
+          «last_user_count» = k .«last_user_count» ∙ c .«last_user_count»;
+          «last_added_count» = k .«last_added_count» ∙ c .«last_added_count»;
+          few = omega (arith, k .«last_user_count», c .few);
         };
     sound = x .sound;
   }
@@ -226,17 +189,7 @@ module _ {step : Console → List ℕ → Console} {p : ℕ → ℕ} {n L : ℕ}
 
 -- A setup that is not refused ----------------------------------------------------------------------------------------------------------
 
-all-late : (l : List ℕ) → ((s : ℕ) → s < length l → getD l s 0 ≤ maxDelay) → allLate l ≡ true
-all-late [] h = refl
-all-late (d ∷ l) h = simp (le-leb _ _ (h 0 (omega arith))) (all-late l (λ s x. h (suc s) (omega arith)))
-
 module _ (u : Setup) (h : Fit u) where
-  pub fit-fits : layer.fits (u .limit) (u .predictor) (u .delays) ≡ true
-  unfolding layer.fits
-  fit-fits =
-      simp (ne-eqb (length (u .delays)) 0 (λ e. omega (arith, h .one)), le-leb _ _ (h .few), le-leb _ _ (h .near), lt-ltb _ _ (h .guess))
-      (all-late (u .delays) (h .late))
-
   -- the delay of seat s
   abbrev pub delayOf : ℕ → ℕ
   delayOf s = getD (u .delays) s 0
@@ -244,18 +197,13 @@ module _ (u : Setup) (h : Fit u) where
   abbrev opening : ℕ → QueueState → QueueState
   opening s q = freshState (delayOf s)
 
-  clear-long : (n : ℕ) (l : List ℕ) → length (clearSlots n l) ≡ length l
-  unfolding clearSlots
-  clear-long zero l = refl
-  clear-long (suc n) l = simp length-set (clear-long n l)
-
   pub setup-seats : setupOf u .seats ≡ mapSeats (length (u .delays)) opening (u .seats)
   unfolding setupOf openedSeats
-  setup-seats = simp fit-fits
+  setup-seats = simp (fit-fits u h)
 
   pub setup-slots : setupOf u .slots ≡ clearSlots (suc (u .limit)) (u .slots)
   unfolding setupOf openedSlots
-  setup-slots = simp fit-fits
+  setup-slots = simp (fit-fits u h)
 
   pub setup-words : setupOf u .words ≡ u .words
   unfolding setupOf
@@ -263,7 +211,7 @@ module _ (u : Setup) (h : Fit u) where
 
   pub setup-state : setupOf u .state ≡ record { seats = length (u .delays); limit = u .limit; predictor = u .predictor; current = 0; console = start }
   unfolding setupOf setupState
-  setup-state = simp fit-fits
+  setup-state = simp (fit-fits u h)
 
   setup-current : setupOf u .state .current ≡ 0
   setup-current = ap (λ (y : DeskState). y .current) setup-state
@@ -271,18 +219,18 @@ module _ (u : Setup) (h : Fit u) where
   setup-queue : (s : ℕ) → s < length (u .delays) → queueOf (setupOf u) s ≡ freshState (delayOf s)
   setup-queue s sn =
       ap (λ (l : List ℕ). seatAt l s) setup-seats
-      ∙ map-at opening (length (u .delays)) (u .seats) s (omega (arith, h .few, h .room)) sn
+      ∙ map-at opening (length (u .delays)) (u .seats) s (omega (arith, h .seats-in-range, h .seats-room)) sn
 
   pub setup-shape : Shape (length (u .delays)) (u .limit) (setupOf u)
   setup-shape = record {
     seats = ap (λ (y : DeskState). y .seats) setup-state;
     limit = ap (λ (y : DeskState). y .limit) setup-state;
-    one = h .one;
-    few = h .few;
-    near = h .near;
-    queues = rw (setup-seats, map-long opening (length (u .delays)) (u .seats)) (h .room);
-    words = rw setup-words (h .wide);
-    slots = rw (setup-slots, clear-long (suc (u .limit)) (u .slots)) (h .deep);
+    one = h .some-seat;
+    few = h .seats-in-range;
+    near = h .limit-in-range;
+    queues = rw (setup-seats, map-long opening (length (u .delays)) (u .seats)) (h .seats-room);
+    words = rw setup-words (h .words-room);
+    slots = rw (setup-slots, clear-long (suc (u .limit)) (u .slots)) (h .slots-room);
   }
 
   module _ (step : Console → List ℕ → Console) (p : ℕ → ℕ) where
@@ -315,7 +263,7 @@ module _ (u : Setup) (h : Fit u) where
     setup-good = record {
       shape = setup-shape;
       early = omega (arith, setup-current);
-      counted = λ s sn. rw (setup-queue s sn) (record { delay-is = refl; user = refl; added = refl; few = omega arith });
+      counted = λ s sn. rw (setup-queue s sn) (record { delay-is = refl; «last_user_count» = refl; «last_added_count» = refl; few = omega arith });
       sound = setup-sound;
     }
 

@@ -18,14 +18,15 @@ use Rattle.sync_layer.specs.Seats.{seatAt, setSeat, mapSeats}
 use Rattle.sync_layer.specs.Slots.{saveSlot, clearSlots}
 use Rattle.sync_layer.specs.Calls.{openedSeats, openedSlots}
 use Rattle.sync_layer.specs.Calls as layer
+use Rattle.sync_layer.specs.Runs as layers
 use Rattle.desk.specs.Lists.{leastOf, rowOf}
 use Rattle.desk.specs.Desk.{Setup, setupState, setupOf, mismatchOf, takeAnswer, taken, take, load, resetAll, discardAll, confirm, oneFrame, replay, corrected, settle, advanceAnswer, advance}
 use Rattle.desk.specs.Settled.{Settles, shownWords}
 use Rattle.desk.specs.Calls.{setupAnswer}
-use Rattle.desk.specs.Runs.{Call, take-call, settle-call, advance-call, after, runFrom, run, gained, acceptedFrom, accepted, Begins, Fit}
+use Rattle.desk.specs.Runs.{Call, take-call, settle-call, advance-call, after, runFrom, run, gained, acceptedFrom, accepted, EitherBegins, Fit}
 use Rattle.agreement.specs.Reference.{refWord, refRow, stateBefore}
 use Rattle.agreement.specs.Statement.{runOf, acceptedOf, Same, Agree}
-use Rattle.agreement.specs.Tried.{triedLoad, triedRequest, triedConfirm, triedFrame, triedReplay, triedCorrected, triedSettle, tried}
+use Rattle.agreement.specs.Tried.{driven, triedLoad, resetting, saving, triedRequest, triedCount, triedConfirm, triedFrame, triedReplay, triedCorrected, triedSettle}
 use Rattle.agreement.proofs.Claims.{our-agree}
 use Rattle.agreement.proofs.Reached.{done-fit}
 
@@ -67,8 +68,8 @@ near-settles : Settles (runOf stepOf predicted near nearCalls) 1
 unfolding wrongAfter predictingAfter put fill add asked answer reset discard fillWords addWords writeRow lowestOf seatAt setSeat mapSeats saveSlot clearSlots openedSeats openedSlots layer.fits leastOf rowOf setupState setupOf takeAnswer taken take load resetAll discardAll confirm oneFrame replay corrected settle advanceAnswer advance after runFrom run gained acceptedFrom accepted predicted stepOf moved sealed
 near-settles = record { past = omega arith; slot = omega arith; known = omega arith; right = inl refl }
 
-begins : (s : ℕ) → s < 2 → Begins (acceptedOf stepOf predicted near nearCalls s) (acceptedOf stepOf predicted far farSettled s)
-unfolding wrongAfter predictingAfter put fill add asked answer reset discard fillWords addWords writeRow lowestOf seatAt setSeat mapSeats saveSlot clearSlots openedSeats openedSlots layer.fits leastOf rowOf setupState setupOf takeAnswer taken take load resetAll discardAll confirm oneFrame replay corrected settle advanceAnswer advance after runFrom run gained acceptedFrom accepted predicted stepOf moved sealed Begins
+begins : (s : ℕ) → s < 2 → EitherBegins (acceptedOf stepOf predicted near nearCalls s) (acceptedOf stepOf predicted far farSettled s)
+unfolding wrongAfter predictingAfter put fill add asked answer reset discard fillWords addWords writeRow lowestOf seatAt setSeat mapSeats saveSlot clearSlots openedSeats openedSlots layer.fits leastOf rowOf setupState setupOf takeAnswer taken take load resetAll discardAll confirm oneFrame replay corrected settle advanceAnswer advance after runFrom run gained acceptedFrom accepted predicted stepOf moved sealed EitherBegins
 begins zero x = inr (9 ∷ [], refl)
 begins (suc zero) x = inl ([], refl)
 begins (suc (suc s)) x = absurd (omega arith)
@@ -93,8 +94,8 @@ deep = record { limit = 4; predictor = 0; delays = 0 ∷ 0 ∷ []; seats = repli
 abbrev deepCalls : List Call
 deepCalls = take-call 0 (pos 0) 1 ∷ take-call 0 (pos 1) 1 ∷ take-call 0 (pos 2) 1 ∷ take-call 0 (pos 3) 1 ∷ take-call 0 (pos 4) 1 ∷ take-call 1 (pos 0) 0 ∷ take-call 1 (pos 1) 0 ∷ advance-call ∷ advance-call ∷ advance-call ∷ advance-call ∷ settle-call ∷ take-call 1 (pos 2) 9 ∷ []
 
-deep-tried : (mismatchOf (runOf stepOf predicted deep deepCalls) ≡ 3) × (tried stepOf (predicted 0) (runOf stepOf predicted deep deepCalls) settle-call .number ≡ 0)
-unfolding wrongAfter predictingAfter put fill add asked answer reset discard fillWords addWords writeRow lowestOf seatAt setSeat mapSeats saveSlot clearSlots openedSeats openedSlots layer.fits leastOf rowOf setupState setupOf takeAnswer taken take load resetAll discardAll confirm oneFrame replay corrected settle advanceAnswer advance after runFrom run gained acceptedFrom accepted predicted stepOf moved sealed tried triedSettle triedCorrected triedReplay triedFrame triedConfirm triedRequest triedLoad layer.loadRefusal layer.capRefusal firstRefusal inputRefusal
+deep-tried : (mismatchOf (runOf stepOf predicted deep deepCalls) ≡ 3) × (triedSettle stepOf (driven 0 0 (runOf stepOf predicted deep deepCalls)) .number ≡ 0)
+unfolding wrongAfter predictingAfter put fill add asked answer reset discard fillWords addWords writeRow lowestOf seatAt setSeat mapSeats saveSlot clearSlots openedSeats openedSlots layer.fits leastOf rowOf setupState setupOf takeAnswer taken take load resetAll discardAll confirm oneFrame replay corrected settle advanceAnswer advance after runFrom run gained acceptedFrom accepted predicted stepOf moved sealed triedSettle triedCorrected triedReplay triedFrame triedConfirm triedCount triedRequest saving resetting triedLoad layers.after layer.loaded layer.loadRefusal layer.servedSeats layer.servedWords layer.requestRefusal layer.advanced layer.confirmed layer.confirmedSeats layer.capRefusal firstRefusal inputRefusal
 deep-tried = (refl, refl)
 
 -- The reference on document 01's first marked example: one seat, delay 1, two words; the rows, and the console after them.
@@ -136,7 +137,7 @@ long-fit = done-fit long refl (omega arith) (omega arith) (omega arith)
 -- So demand 3 does not hold for it: that a predictor is steady is not asked in vain.
 pub halving-disagrees : Agree stepOf halving → ⊥
 halving-disagrees a =
-    let s = a long long long-fit long-fit refl halvingCalls halvingCalls (λ s x. unfold Begins in inl ([], sym (append-nil (acceptedOf stepOf halving long halvingCalls s)))) 2 halving-settles halving-settles in
+    let s = a long long long-fit long-fit refl halvingCalls halvingCalls (λ s x. unfold EitherBegins in inl ([], sym (append-nil (acceptedOf stepOf halving long halvingCalls s)))) 2 halving-settles halving-settles in
     let e : _≡_ {A = List ℕ} (2 ∷ 0 ∷ []) (1 ∷ 0 ∷ []) = sym (halving-shows .0) ∙ s .words-right ∙ halving-shows .1 in
     let z : _≡_ {A = ℕ} 2 1 = ap (λ (l : List ℕ). getD l 0 0) e in
     omega arith

@@ -1,5 +1,5 @@
 -- One seat of a sound desk: what is known of its queue, and that every step keeps it. Assumes nothing.
-use Prim.Native.Nat.{ℕ, zero, suc, _+_, _-_, _<_, _≤_}
+use Prim.Native.Nat.{ℕ, zero, suc, _+_, _-_, min, _<_, _≤_}
 use native.Mathlib.Omega.{arith}
 use native.Mathlib.Numerals.{add-one}
 use mathlib.Core.Path.{_≡_, refl, ap, sym, _∙_}
@@ -8,7 +8,7 @@ use mathlib.Core.Logic.{_⊎_, inl, inr, ⊎-elim, _≢_}
 use Prim.{absurd}
 use lib.Dec.{ltb, eqb}
 use borrow.Author.Tests.{eq-eqb, ne-eqb, lt-ltb, le-ltb}
-use Rattle.frame_info.proofs.Split.{split-eqb, split-ltb, split-leb}
+use Rattle.frame_info.proofs.Split.{split-eqb, split-ltb}
 use Rattle.input_queue.specs.declared.QueueState.{QueueState}
 use Rattle.input_queue.specs.Queue.{fresh, newest, wrongAfter, put, asked, answer, reset, capped, oldestAfter, discard}
 use Rattle.input_queue.proofs.Cases as cases
@@ -16,92 +16,92 @@ use Rattle.input_queue.proofs.Fills as fills
 
 -- the fields after a put
 module _ (q : QueueState) (w : ℕ) where
-  wrong-idle : q .predicting ≡ 0 → put q w .wrong ≡ q .wrong
+  wrong-idle : q .«prediction_count» ≡ 0 → put q w .«first_incorrect_count» ≡ q .«first_incorrect_count»
   unfolding put
   wrong-idle e = sym (cases.wrong-idle q w e)
 
-  wrong-hit : q .predicting ≢ 0 → q .wrong ≡ 0 → q .guess ≡ w → put q w .wrong ≡ 0
+  wrong-hit : q .«prediction_count» ≢ 0 → q .«first_incorrect_count» ≡ 0 → q .prediction ≡ w → put q w .«first_incorrect_count» ≡ 0
   unfolding put
   wrong-hit e o g = sym (cases.wrong-matched q w e o g)
 
-  wrong-miss : q .predicting ≢ 0 → q .wrong ≡ 0 → q .guess ≢ w → put q w .wrong ≡ suc (q .added)
+  wrong-miss : q .«prediction_count» ≢ 0 → q .«first_incorrect_count» ≡ 0 → q .prediction ≢ w → put q w .«first_incorrect_count» ≡ suc (q .«last_added_count»)
   unfolding put
-  wrong-miss e o g = sym (cases.wrong-begins q w e o g) ∙ add-one (q .added)
+  wrong-miss e o g = sym (cases.wrong-begins q w e o g) ∙ add-one (q .«last_added_count»)
 
-  wrong-stays : q .wrong ≢ 0 → put q w .wrong ≡ q .wrong
+  wrong-stays : q .«first_incorrect_count» ≢ 0 → put q w .«first_incorrect_count» ≡ q .«first_incorrect_count»
   unfolding put
   wrong-stays e =
-      ⊎-elim (λ a. sym (cases.wrong-idle q w (a .0))) (λ a. sym (cases.wrong-stands q w (a .0) e)) (split-eqb (q .predicting) 0)
+      ⊎-elim (λ a. sym (cases.wrong-idle q w (a .0))) (λ a. sym (cases.wrong-stands q w (a .0) e)) (split-eqb (q .«prediction_count») 0)
 
-  predicting-idle : q .predicting ≡ 0 → put q w .predicting ≡ 0
+  predicting-idle : q .«prediction_count» ≡ 0 → put q w .«prediction_count» ≡ 0
   unfolding put
   predicting-idle e = sym (cases.predicting-idle q (wrongAfter q w) e)
 
-  predicting-ends : q .predicting ≢ 0 → q .predicting ≡ q .requested → put q w .wrong ≡ 0 → put q w .predicting ≡ 0
+  predicting-ends : q .«prediction_count» ≢ 0 → q .«prediction_count» ≡ q .«last_requested_count» → put q w .«first_incorrect_count» ≡ 0 → put q w .«prediction_count» ≡ 0
   unfolding put
   predicting-ends e r o = sym (cases.predicting-ends q (wrongAfter q w) e r o)
 
-  predicting-on : q .predicting ≢ 0 → q .predicting ≢ q .requested → put q w .predicting ≡ suc (q .predicting)
+  predicting-on : q .«prediction_count» ≢ 0 → q .«prediction_count» ≢ q .«last_requested_count» → put q w .«prediction_count» ≡ suc (q .«prediction_count»)
   unfolding put
-  predicting-on e r = sym (cases.predicting-on q (wrongAfter q w) e r) ∙ add-one (q .predicting)
+  predicting-on e r = sym (cases.predicting-on q (wrongAfter q w) e r) ∙ add-one (q .«prediction_count»)
 
-  pub put-added : put q w .added ≡ suc (q .added)
-  put-added = fills.put-added q w ∙ add-one (q .added)
+  pub put-added : put q w .«last_added_count» ≡ suc (q .«last_added_count»)
+  put-added = fills.put-added q w ∙ add-one (q .«last_added_count»)
 
   -- storing a word takes a prediction at most one place on
-  put-ahead : q .predicting ≤ suc (q .added) → put q w .predicting ≤ suc (put q w .added)
+  put-ahead : q .«prediction_count» ≤ suc (q .«last_added_count») → put q w .«prediction_count» ≤ suc (put q w .«last_added_count»)
   put-ahead h = omega (arith, fills.put-ahead q w (omega arith))
 
 -- the fields that storing leaves alone
 pub record Same (s t : QueueState) : Type 0 where
-  pub delay : t .delay ≡ s .delay
-  pub user : t .user ≡ s .user
+  pub «frame_delay» : t .«frame_delay» ≡ s .«frame_delay»
+  pub «last_user_count» : t .«last_user_count» ≡ s .«last_user_count»
   pub oldest : t .oldest ≡ s .oldest
-  pub requested : t .requested ≡ s .requested
-  pub guess : t .guess ≡ s .guess
+  pub «last_requested_count» : t .«last_requested_count» ≡ s .«last_requested_count»
+  pub prediction : t .prediction ≡ s .prediction
 
 pub put-same : (s : QueueState) (w : ℕ) → Same s (put s w)
 unfolding put
-put-same s w = record { delay = refl; user = refl; oldest = refl; requested = refl; guess = refl }
+put-same s w = record { «frame_delay» = refl; «last_user_count» = refl; oldest = refl; «last_requested_count» = refl; prediction = refl }
 
 -- What is stored: the ring has the reference's word R at each place that it holds. B bounds what was thrown away; no seat will be
 -- asked for a frame below it. T is the frame up to which the desk has served (the current one, but during a replay).
 pub record Stored (R at : ℕ → ℕ) (T L B : ℕ) (q : QueueState) : Type 0 where
-  pub ring : q .added ≤ q .oldest + 128
+  pub ring : q .«last_added_count» ≤ q .oldest + 128
   pub thrown : q .oldest ≤ B
-  pub floor : B ≤ q .added
-  pub near : T ≤ q .added + L
-  pub ahead : q .predicting ≤ suc (q .added)
-  pub at-is : (f : ℕ) → f < q .added → q .added ≤ f + 128 → at f ≡ R f
+  pub floor : B ≤ q .«last_added_count»
+  pub near : T ≤ q .«last_added_count» + L
+  pub ahead : q .«prediction_count» ≤ suc (q .«last_added_count»)
+  pub at-is : (f : ℕ) → f < q .«last_added_count» → q .«last_added_count» ≤ f + 128 → at f ≡ R f
 
 -- What was served (S) for the frames from b on below c: the reference's words as far as words are stored, then the guess from the newest.
 pub record Served (p R S : ℕ → ℕ) (b c : ℕ) (q : QueueState) : Type 0 where
-  pub below : (f : ℕ) → b ≤ f → f < c → f < q .added → S f ≡ R f
-  pub above : (f : ℕ) → b ≤ f → f < c → q .added ≤ f → S f ≡ fresh p R (q .added)
+  pub below : (f : ℕ) → b ≤ f → f < c → f < q .«last_added_count» → S f ≡ R f
+  pub above : (f : ℕ) → b ≤ f → f < c → q .«last_added_count» ≤ f → S f ≡ fresh p R (q .«last_added_count»)
 
 -- the prediction of a seat that predicts at frame c
 pub record Guess (p R : ℕ → ℕ) (c : ℕ) (q : QueueState) : Type 0 where
-  pub at-frame : q .predicting ≡ suc (q .added)
-  pub missing : q .added ≤ c
-  pub word : q .guess ≡ fresh p R (q .added)
+  pub at-frame : q .«prediction_count» ≡ suc (q .«last_added_count»)
+  pub missing : q .«last_added_count» ≤ c
+  pub word : q .prediction ≡ fresh p R (q .«last_added_count»)
 
 -- a seat that may be asked for frame c: no mismatch
 pub record Clean (p R S : ℕ → ℕ) (b c : ℕ) (q : QueueState) : Type 0 where
-  pub right : q .wrong ≡ 0
-  pub mode : (q .predicting ≡ 0) ⊎ Guess p R c q
+  pub right : q .«first_incorrect_count» ≡ 0
+  pub mode : (q .«prediction_count» ≡ 0) ⊎ Guess p R c q
   pub served : Served p R S b c q
 
 -- a seat with no mismatch after its request for frame c - 1
 pub record Neat (p R S : ℕ → ℕ) (b c : ℕ) (q : QueueState) : Type 0 where
-  pub right : q .wrong ≡ 0
-  pub mode : ((q .predicting ≡ 0) × (c ≤ q .added)) ⊎ ((q .requested ≡ c) × (q .added < c) × Guess p R c q)
+  pub right : q .«first_incorrect_count» ≡ 0
+  pub mode : ((q .«prediction_count» ≡ 0) × (c ≤ q .«last_added_count»)) ⊎ ((q .«last_requested_count» ≡ c) × (q .«last_added_count» < c) × Guess p R c q)
   pub served : Served p R S b c q
 
 -- a seat with a mismatch at m
 pub record Broken (R S : ℕ → ℕ) (b c L B : ℕ) (q : QueueState) : Type 0 where
   pub m : ℕ
-  pub wrong : q .wrong ≡ suc m
-  pub stored : m < q .added
+  pub «first_incorrect_count» : q .«first_incorrect_count» ≡ suc m
+  pub stored : m < q .«last_added_count»
   pub past : m < c
   pub near : c ≤ m + L
   pub kept : B ≤ m
@@ -140,10 +140,10 @@ fresh-same p R at (suc n) h = fresh-some p at n ∙ ap p (h n (omega arith) (ome
 module _ {R at : ℕ → ℕ} {c L B : ℕ} {q : QueueState} (w : ℕ) (at′ : ℕ → ℕ) where
   -- storing the reference's next word
   pub put-stored : Stored R at c L B q
-      → q .added < q .oldest + 128
-      → R (q .added) ≡ w
-      → ((f : ℕ) → f < q .added → q .added < f + 128 → at′ f ≡ at f)
-      → at′ (q .added) ≡ w
+      → q .«last_added_count» < q .oldest + 128
+      → R (q .«last_added_count») ≡ w
+      → ((f : ℕ) → f < q .«last_added_count» → q .«last_added_count» < f + 128 → at′ f ≡ at f)
+      → at′ (q .«last_added_count») ≡ w
       → Stored R at′ c L B (put q w)
   put-stored s room r same new =
       let e = put-added q w in
@@ -158,19 +158,19 @@ module _ {R at : ℕ → ℕ} {c L B : ℕ} {q : QueueState} (w : ℕ) (at′ : 
             ⊎-elim
             (λ a. rw (a .0) (new ∙ sym r))
             (λ a. same f (omega (arith, a .0)) (omega arith) ∙ s .at-is f (omega (arith, a .0)) (omega arith))
-            (split-eqb f (q .added));
+            (split-eqb f (q .«last_added_count»));
       }
 
 module _ {p R at S : ℕ → ℕ} {b c L B : ℕ} {q : QueueState} (w : ℕ) where
   pub put-kind : p 0 ≡ 0
       → ((v : ℕ) → p (p v) ≡ p v)
       → Stored R at c L B q
-      → R (q .added) ≡ w
+      → R (q .«last_added_count») ≡ w
       → Neat p R S b c q ⊎ Broken R S b c L B q
       → Neat p R S b c (put q w) ⊎ Broken R S b c L B (put q w)
   put-kind z i s r (inl n) = ⊎-elim known guessing (n .mode)
     where
-      known : (q .predicting ≡ 0) × (c ≤ q .added) → Neat p R S b c (put q w) ⊎ Broken R S b c L B (put q w)
+      known : (q .«prediction_count» ≡ 0) × (c ≤ q .«last_added_count») → Neat p R S b c (put q w) ⊎ Broken R S b c L B (put q w)
       known a =
           let e = put-added q w in
           inl (record {
@@ -182,48 +182,48 @@ module _ {p R at S : ℕ → ℕ} {b c L B : ℕ} {q : QueueState} (w : ℕ) whe
             };
           })
 
-      guessing : (q .requested ≡ c) × (q .added < c) × Guess p R c q → Neat p R S b c (put q w) ⊎ Broken R S b c L B (put q w)
-      guessing a = ⊎-elim hit miss (split-eqb (q .guess) w)
+      guessing : (q .«last_requested_count» ≡ c) × (q .«last_added_count» < c) × Guess p R c q → Neat p R S b c (put q w) ⊎ Broken R S b c L B (put q w)
+      guessing a = ⊎-elim hit miss (split-eqb (q .prediction) w)
         where
-          on : q .predicting ≢ 0
+          on : q .«prediction_count» ≢ 0
           on o = omega (arith, a .2 .at-frame)
 
-          hit : (q .guess ≡ w) × (eqb (q .guess) w ≡ true) → Neat p R S b c (put q w) ⊎ Broken R S b c L B (put q w)
+          hit : (q .prediction ≡ w) × (eqb (q .prediction) w ≡ true) → Neat p R S b c (put q w) ⊎ Broken R S b c L B (put q w)
           hit g =
               let e = put-added q w in
               let o = wrong-hit q w on (n .right) (g .0) in
-              let k : R (q .added) ≡ fresh p R (q .added) = r ∙ sym (g .0) ∙ a .2 .word in
-              let k′ : fresh p R (put q w .added) ≡ fresh p R (q .added) = rw e (guess-on p R (q .added) z i k) in
+              let k : R (q .«last_added_count») ≡ fresh p R (q .«last_added_count») = r ∙ sym (g .0) ∙ a .2 .word in
+              let k′ : fresh p R (put q w .«last_added_count») ≡ fresh p R (q .«last_added_count») = rw e (guess-on p R (q .«last_added_count») z i k) in
               inl (record {
                 right = o;
                 mode = ⊎-elim
                     (λ d. inl (predicting-ends q w on (omega (arith, a .2 .at-frame, d .0, a .0)) o, omega arith))
                     (λ d. inr (
-                      (put-same q w .requested) ∙ a .0,
+                      (put-same q w .«last_requested_count») ∙ a .0,
                       omega (arith, d .0, a .1),
                       record {
                         at-frame = omega (arith, predicting-on q w on (λ j. d .0 (omega (arith, j, a .0, a .2 .at-frame))), a .2 .at-frame);
                         missing = omega (arith, d .0, a .1);
-                        word = put-same q w .guess ∙ a .2 .word ∙ sym k′;
+                        word = put-same q w .prediction ∙ a .2 .word ∙ sym k′;
                       },
                     ))
-                    (split-eqb (suc (q .added)) c);
+                    (split-eqb (suc (q .«last_added_count»)) c);
                 served = record {
                   below = λ f x y v.
                       ⊎-elim
-                      (λ d. rw (d .0) (n .served .above (q .added) (omega (arith, d .0)) (a .1) (omega arith) ∙ sym k))
+                      (λ d. rw (d .0) (n .served .above (q .«last_added_count») (omega (arith, d .0)) (a .1) (omega arith) ∙ sym k))
                       (λ d. n .served .below f x y (omega (arith, d .0)))
-                      (split-eqb f (q .added));
+                      (split-eqb f (q .«last_added_count»));
                   above = λ f x y v. n .served .above f x y (omega arith) ∙ sym k′;
                 };
               })
 
-          miss : (q .guess ≢ w) × (eqb (q .guess) w ≡ false) → Neat p R S b c (put q w) ⊎ Broken R S b c L B (put q w)
+          miss : (q .prediction ≢ w) × (eqb (q .prediction) w ≡ false) → Neat p R S b c (put q w) ⊎ Broken R S b c L B (put q w)
           miss g =
               let e = put-added q w in
               inr (record {
-                m = q .added;
-                wrong = wrong-miss q w on (n .right) (g .0);
+                m = q .«last_added_count»;
+                «first_incorrect_count» = wrong-miss q w on (n .right) (g .0);
                 stored = omega arith;
                 past = a .1;
                 near = s .near;
@@ -234,7 +234,7 @@ module _ {p R at S : ℕ → ℕ} {b c L B : ℕ} {q : QueueState} (w : ℕ) whe
       let e = put-added q w in
       inr (record {
         m = d .m;
-        wrong = wrong-stays q w (λ o. omega (arith, d .wrong)) ∙ d .wrong;
+        «first_incorrect_count» = wrong-stays q w (λ o. omega (arith, d .«first_incorrect_count»)) ∙ d .«first_incorrect_count»;
         stored = omega (arith, d .stored);
         past = d .past;
         near = d .near;
@@ -244,60 +244,60 @@ module _ {p R at S : ℕ → ℕ} {b c L B : ℕ} {q : QueueState} (w : ℕ) whe
 
 -- the fields after a request
 pub record Asked (p at : ℕ → ℕ) (q : QueueState) (c : ℕ) (t : QueueState) : Type 0 where
-  pub delay : t .delay ≡ q .delay
-  pub user : t .user ≡ q .user
-  pub added : t .added ≡ q .added
+  pub «frame_delay» : t .«frame_delay» ≡ q .«frame_delay»
+  pub «last_user_count» : t .«last_user_count» ≡ q .«last_user_count»
+  pub «last_added_count» : t .«last_added_count» ≡ q .«last_added_count»
   pub oldest : t .oldest ≡ q .oldest
-  pub requested : t .requested ≡ suc c
-  pub wrong : t .wrong ≡ q .wrong
+  pub «last_requested_count» : t .«last_requested_count» ≡ suc c
+  pub «first_incorrect_count» : t .«first_incorrect_count» ≡ q .«first_incorrect_count»
 
 pub asked-fields : (p at : ℕ → ℕ) (q : QueueState) (c : ℕ) → Asked p at q c (asked p at q c)
 unfolding asked
-asked-fields p at q c = record { delay = refl; user = refl; added = refl; oldest = refl; requested = add-one c; wrong = refl }
+asked-fields p at q c = record { «frame_delay» = refl; «last_user_count» = refl; «last_added_count» = refl; oldest = refl; «last_requested_count» = add-one c; «first_incorrect_count» = refl }
 
 module _ (p at : ℕ → ℕ) (q : QueueState) (c : ℕ) where
-  held-predicting : q .predicting ≡ 0 → c < q .added → asked p at q c .predicting ≡ 0
+  held-predicting : q .«prediction_count» ≡ 0 → c < q .«last_added_count» → asked p at q c .«prediction_count» ≡ 0
   unfolding asked
   held-predicting e h = simp (eq-eqb _ _ e, lt-ltb _ _ h)
 
-  held-answer : q .predicting ≡ 0 → c < q .added → answer p at q c ≡ at c
+  held-answer : q .«prediction_count» ≡ 0 → c < q .«last_added_count» → answer p at q c ≡ at c
   unfolding answer
   held-answer e h = simp (eq-eqb _ _ e, lt-ltb _ _ h)
 
-  begins-predicting : q .predicting ≡ 0 → q .added ≤ c → asked p at q c .predicting ≡ suc (q .added)
+  begins-predicting : q .«prediction_count» ≡ 0 → q .«last_added_count» ≤ c → asked p at q c .«prediction_count» ≡ suc (q .«last_added_count»)
   unfolding asked
   begins-predicting e h = simp (eq-eqb _ _ e, le-ltb _ _ h) (add-one _)
 
-  begins-guess : q .predicting ≡ 0 → q .added ≤ c → asked p at q c .guess ≡ fresh p at (q .added)
+  begins-guess : q .«prediction_count» ≡ 0 → q .«last_added_count» ≤ c → asked p at q c .prediction ≡ fresh p at (q .«last_added_count»)
   unfolding asked
   begins-guess e h = simp (eq-eqb _ _ e, le-ltb _ _ h)
 
-  begins-answer : q .predicting ≡ 0 → q .added ≤ c → answer p at q c ≡ fresh p at (q .added)
+  begins-answer : q .«prediction_count» ≡ 0 → q .«last_added_count» ≤ c → answer p at q c ≡ fresh p at (q .«last_added_count»)
   unfolding answer
   begins-answer e h = simp (eq-eqb _ _ e, le-ltb _ _ h)
 
-  standing-predicting : q .predicting ≢ 0 → asked p at q c .predicting ≡ q .predicting
+  standing-predicting : q .«prediction_count» ≢ 0 → asked p at q c .«prediction_count» ≡ q .«prediction_count»
   unfolding asked
   standing-predicting e = simp (ne-eqb _ _ e)
 
-  standing-guess : q .predicting ≢ 0 → asked p at q c .guess ≡ q .guess
+  standing-guess : q .«prediction_count» ≢ 0 → asked p at q c .prediction ≡ q .prediction
   unfolding asked
   standing-guess e = simp (ne-eqb _ _ e)
 
-  standing-answer : q .predicting ≢ 0 → answer p at q c ≡ q .guess
+  standing-answer : q .«prediction_count» ≢ 0 → answer p at q c ≡ q .prediction
   unfolding answer
   standing-answer e = simp (ne-eqb _ _ e)
 
-pub asked-ahead : (p at : ℕ → ℕ) (q : QueueState) (c : ℕ) → q .predicting ≤ suc (q .added) → asked p at q c .predicting ≤ suc (asked p at q c .added)
+pub asked-ahead : (p at : ℕ → ℕ) (q : QueueState) (c : ℕ) → q .«prediction_count» ≤ suc (q .«last_added_count») → asked p at q c .«prediction_count» ≤ suc (asked p at q c .«last_added_count»)
 asked-ahead p at q c h =
     let k = asked-fields p at q c in
     ⊎-elim
     (λ a. ⊎-elim
-    (λ b. omega (arith, held-predicting p at q c (a .0) (b .0), k .added))
-    (λ b. omega (arith, begins-predicting p at q c (a .0) (b .0), k .added))
-    (split-ltb c (q .added)))
-    (λ a. omega (arith, standing-predicting p at q c (a .0), k .added))
-    (split-eqb (q .predicting) 0)
+    (λ b. omega (arith, held-predicting p at q c (a .0) (b .0), k .«last_added_count»))
+    (λ b. omega (arith, begins-predicting p at q c (a .0) (b .0), k .«last_added_count»))
+    (split-ltb c (q .«last_added_count»)))
+    (λ a. omega (arith, standing-predicting p at q c (a .0), k .«last_added_count»))
+    (split-eqb (q .«prediction_count») 0)
 
 module _ (p : ℕ → ℕ) {R at : ℕ → ℕ} {T L B : ℕ} {q : QueueState} where
   pub asked-stored : (c : ℕ) → Stored R at T L B q → Stored R at T L B (asked p at q c)
@@ -317,67 +317,67 @@ module _ {p R at S : ℕ → ℕ} {b c T L B : ℕ} {q : QueueState} (S′ : ℕ
       k : Asked p at q c (asked p at q c)
       k = asked-fields p at q c
 
-      same-fresh : fresh p R (asked p at q c .added) ≡ fresh p R (q .added)
-      same-fresh = rw (k .added)
+      same-fresh : fresh p R (asked p at q c .«last_added_count») ≡ fresh p R (q .«last_added_count»)
+      same-fresh = rw (k .«last_added_count»)
 
-      idle : q .predicting ≡ 0 → Neat p R S′ b (suc c) (asked p at q c)
-      idle e = ⊎-elim held begins (split-ltb c (q .added))
+      idle : q .«prediction_count» ≡ 0 → Neat p R S′ b (suc c) (asked p at q c)
+      idle e = ⊎-elim held begins (split-ltb c (q .«last_added_count»))
         where
-          held : (c < q .added) × (ltb c (q .added) ≡ true) → Neat p R S′ b (suc c) (asked p at q c)
+          held : (c < q .«last_added_count») × (ltb c (q .«last_added_count») ≡ true) → Neat p R S′ b (suc c) (asked p at q c)
           held a = record {
-            right = k .wrong ∙ n .right;
-            mode = inl (held-predicting p at q c e (a .0), omega (arith, a .0, k .added));
+            right = k .«first_incorrect_count» ∙ n .right;
+            mode = inl (held-predicting p at q c e (a .0), omega (arith, a .0, k .«last_added_count»));
             served = record {
               below = λ f x y v. ⊎-elim
                   (λ d. rw (d .0) (new ∙ held-answer p at q c e (a .0) ∙ s .at-is c (a .0) (omega (arith, s .ring, s .thrown))))
-                  (λ d. same f x (omega (arith, d .0)) ∙ n .served .below f x (omega (arith, d .0)) (omega (arith, k .added)))
+                  (λ d. same f x (omega (arith, d .0)) ∙ n .served .below f x (omega (arith, d .0)) (omega (arith, k .«last_added_count»)))
                   (split-eqb f c);
-              above = λ f x y v. absurd (omega (arith, a .0, v, k .added));
+              above = λ f x y v. absurd (omega (arith, a .0, v, k .«last_added_count»));
             };
           }
 
-          begins : (q .added ≤ c) × (ltb c (q .added) ≡ false) → Neat p R S′ b (suc c) (asked p at q c)
+          begins : (q .«last_added_count» ≤ c) × (ltb c (q .«last_added_count») ≡ false) → Neat p R S′ b (suc c) (asked p at q c)
           begins a =
-              let g = fresh-same p R at (q .added) (s .at-is) ∙ sym same-fresh in
+              let g = fresh-same p R at (q .«last_added_count») (s .at-is) ∙ sym same-fresh in
               record {
-                right = k .wrong ∙ n .right;
+                right = k .«first_incorrect_count» ∙ n .right;
                 mode = inr (
-                  k .requested,
-                  omega (arith, a .0, k .added),
+                  k .«last_requested_count»,
+                  omega (arith, a .0, k .«last_added_count»),
                   record {
-                    at-frame = omega (arith, begins-predicting p at q c e (a .0), k .added);
-                    missing = omega (arith, a .0, k .added);
+                    at-frame = omega (arith, begins-predicting p at q c e (a .0), k .«last_added_count»);
+                    missing = omega (arith, a .0, k .«last_added_count»);
                     word = begins-guess p at q c e (a .0) ∙ g;
                   },
                 );
                 served = record {
-                  below = λ f x y v. same f x (omega (arith, a .0, v, k .added)) ∙ n .served .below f x (omega (arith, a .0, v, k .added)) (omega (arith, k .added));
+                  below = λ f x y v. same f x (omega (arith, a .0, v, k .«last_added_count»)) ∙ n .served .below f x (omega (arith, a .0, v, k .«last_added_count»)) (omega (arith, k .«last_added_count»));
                   above = λ f x y v. ⊎-elim
                       (λ d. rw (d .0) (new ∙ begins-answer p at q c e (a .0) ∙ g))
-                      (λ d. same f x (omega (arith, d .0)) ∙ n .served .above f x (omega (arith, d .0)) (omega (arith, k .added)) ∙ sym same-fresh)
+                      (λ d. same f x (omega (arith, d .0)) ∙ n .served .above f x (omega (arith, d .0)) (omega (arith, k .«last_added_count»)) ∙ sym same-fresh)
                       (split-eqb f c);
                 };
               }
 
       standing : Guess p R c q → Neat p R S′ b (suc c) (asked p at q c)
       standing g =
-          let on : q .predicting ≢ 0 = λ o. omega (arith, g .at-frame) in
+          let on : q .«prediction_count» ≢ 0 = λ o. omega (arith, g .at-frame) in
           record {
-            right = k .wrong ∙ n .right;
+            right = k .«first_incorrect_count» ∙ n .right;
             mode = inr (
-              k .requested,
-              omega (arith, g .missing, k .added),
+              k .«last_requested_count»,
+              omega (arith, g .missing, k .«last_added_count»),
               record {
-                at-frame = omega (arith, standing-predicting p at q c on, g .at-frame, k .added);
-                missing = omega (arith, g .missing, k .added);
+                at-frame = omega (arith, standing-predicting p at q c on, g .at-frame, k .«last_added_count»);
+                missing = omega (arith, g .missing, k .«last_added_count»);
                 word = standing-guess p at q c on ∙ g .word ∙ sym same-fresh;
               },
             );
             served = record {
-              below = λ f x y v. same f x (omega (arith, g .missing, v, k .added)) ∙ n .served .below f x (omega (arith, g .missing, v, k .added)) (omega (arith, k .added));
+              below = λ f x y v. same f x (omega (arith, g .missing, v, k .«last_added_count»)) ∙ n .served .below f x (omega (arith, g .missing, v, k .«last_added_count»)) (omega (arith, k .«last_added_count»));
               above = λ f x y v. ⊎-elim
                   (λ d. rw (d .0) (new ∙ standing-answer p at q c on ∙ g .word ∙ sym same-fresh))
-                  (λ d. same f x (omega (arith, d .0)) ∙ n .served .above f x (omega (arith, d .0)) (omega (arith, k .added)) ∙ sym same-fresh)
+                  (λ d. same f x (omega (arith, d .0)) ∙ n .served .above f x (omega (arith, d .0)) (omega (arith, k .«last_added_count»)) ∙ sym same-fresh)
                   (split-eqb f c);
             };
           }
@@ -385,7 +385,7 @@ module _ {p R at S : ℕ → ℕ} {b c T L B : ℕ} {q : QueueState} (S′ : ℕ
 -- a reset, back at a frame m that is above no mismatch
 module _ {p R S : ℕ → ℕ} {b c L B : ℕ} {q : QueueState} (S′ : ℕ → ℕ) (m : ℕ) where
   pub reset-clean : m ≤ c
-      → (q .wrong ≢ 0 → m < q .wrong)
+      → (q .«first_incorrect_count» ≢ 0 → m < q .«first_incorrect_count»)
       → ((f : ℕ) → b ≤ f → f < m → S′ f ≡ S f)
       → Neat p R S b c q ⊎ Broken R S b c L B q
       → Clean p R S′ b m (reset q)
@@ -399,13 +399,13 @@ module _ {p R S : ℕ → ℕ} {b c L B : ℕ} {q : QueueState} (S′ : ℕ → 
     };
   }
   reset-clean mc low same (inr d) =
-      let k : m < q .wrong = low (λ o. omega (arith, d .wrong)) in
+      let k : m < q .«first_incorrect_count» = low (λ o. omega (arith, d .«first_incorrect_count»)) in
       record {
         right = refl;
         mode = inl refl;
         served = record {
-          below = λ f x y v. same f x y ∙ d .below f x (omega (arith, d .wrong));
-          above = λ f x y v. absurd (omega (arith, d .wrong, d .stored, v));
+          below = λ f x y v. same f x y ∙ d .below f x (omega (arith, d .«first_incorrect_count»));
+          above = λ f x y v. absurd (omega (arith, d .«first_incorrect_count», d .stored, v));
         };
       }
 
@@ -415,21 +415,17 @@ module _ {R at : ℕ → ℕ} {T L B : ℕ} {q : QueueState} where
   reset-stored s = record { ring = s .ring; thrown = s .thrown; floor = s .floor; near = s .near; ahead = omega arith; at-is = s .at-is }
 
 -- a discard to g: what is thrown away is below g, or was gone before
-oldest-in : (q : QueueState) (g : ℕ) → q .added ≤ q .oldest + 128 → (q .added ≤ oldestAfter q g + 128) × ((oldestAfter q g ≤ g) ⊎ (oldestAfter q g ≡ q .oldest))
-oldest-in q g h =
-    ⊎-elim
-    (λ a. ⊎-elim
-    (λ b. simp (a .1, b .1) (h, inr refl))
-    (λ b. simp (a .1, b .1) (omega arith, inl (omega (arith, a .0, b .0))))
-    (split-eqb (q .added) 0))
-    (λ a. ⊎-elim
-    (λ b. simp (a .1, b .1) (omega (arith, b .0), inl (omega arith)))
-    (λ b. simp (a .1, b .1) (h, inr refl))
-    (split-ltb (q .oldest) g))
-    (split-leb (q .added) (g + 1))
+oldest-in : (q : QueueState) (g : ℕ) → q .«last_added_count» ≤ q .oldest + 128 → (q .«last_added_count» ≤ oldestAfter q g + 128) × ((oldestAfter q g ≤ g) ⊎ (oldestAfter q g ≡ q .oldest))
+oldest-in q g h = (
+  omega arith,
+  ⊎-elim
+      (λ a. inl (omega (arith, a .0)))
+      (λ a. inr (omega (arith, a .0)))
+      (split-ltb (q .oldest) (min g (q .«last_added_count» - 1))),
+)
 
 module _ {R at : ℕ → ℕ} {T L B : ℕ} {q : QueueState} (g B′ : ℕ) where
-  pub discard-stored : Stored R at T L B q → g ≤ B′ → B ≤ B′ → B′ ≤ q .added → Stored R at T L B′ (discard q g)
+  pub discard-stored : Stored R at T L B q → g ≤ B′ → B ≤ B′ → B′ ≤ q .«last_added_count» → Stored R at T L B′ (discard q g)
   unfolding discard
   discard-stored s gb bb fl =
       let k = cases.cap-le q g in

@@ -167,8 +167,8 @@ pub record Loaded (n m : ℕ) {C : Type 0} (D E : View C) : Type 0 where
 pub record Lowest (n m : ℕ) {C : Type 0} (D : View C) : Type 0 where
   pub who : ℕ
   pub seat : who < n
-  pub wrong : D .queue who .wrong ≡ suc m
-  pub least : (s : ℕ) → s < n → D .queue s .wrong ≢ 0 → m < D .queue s .wrong
+  pub «first_incorrect_count» : D .queue who .«first_incorrect_count» ≡ suc m
+  pub least : (s : ℕ) → s < n → D .queue s .«first_incorrect_count» ≢ 0 → m < D .queue s .«first_incorrect_count»
 
 -- the view after a discard to g in every queue
 pub record Discarded (n g : ℕ) {C : Type 0} (D E : View C) : Type 0 where
@@ -185,12 +185,12 @@ pub record Going (L m B c : ℕ) : Type 0 where
   pub near : c ≤ m + L
   pub kept : B ≤ m
 
--- "A frame f is settled when 0 <= f < current, f >= current - 1 - limit, f <= K, and no mismatch stands at or below f."
-pub record Settled (n L : ℕ) {C : Type 0} (D : View C) (f : ℕ) : Type 0 where
+-- a settled frame, seat by seat: stored, and served before any mismatch
+pub record SeatsSettled (n L : ℕ) {C : Type 0} (D : View C) (f : ℕ) : Type 0 where
   pub past : f < D .current
   pub slot : D .current ≤ f + suc L
-  pub known : (s : ℕ) → s < n → f < D .queue s .added
-  pub right : (s : ℕ) → s < n → (D .queue s .wrong ≡ 0) ⊎ (suc f < D .queue s .wrong)
+  pub known : (s : ℕ) → s < n → f < D .queue s .«last_added_count»
+  pub right : (s : ℕ) → s < n → (D .queue s .«first_incorrect_count» ≡ 0) ⊎ (suc f < D .queue s .«first_incorrect_count»)
 
 -- a seat served from b on is served from a later frame on
 served-later : {p R S : ℕ → ℕ} {b c : ℕ} {q : QueueState} (b′ : ℕ) → b ≤ b′ → Served p R S b c q → Served p R S b′ c q
@@ -200,7 +200,7 @@ module _ {n L : ℕ} {C : Type 0} {K : Machine C} {p : ℕ → ℕ} {R : ℕ →
   pub quiet-sound : Quiet n L K p R D → Sound n L K p R D
   quiet-sound q = mid-sound (q .mid) (q .neat)
 
-  pub sound-quiet : Sound n L K p R D → ((s : ℕ) → s < n → D .queue s .wrong ≡ 0) → Quiet n L K p R D
+  pub sound-quiet : Sound n L K p R D → ((s : ℕ) → s < n → D .queue s .«first_incorrect_count» ≡ 0) → Quiet n L K p R D
   sound-quiet h e = record {
     floor = h .floor;
     mid = record {
@@ -210,15 +210,15 @@ module _ {n L : ℕ} {C : Type 0} {K : Machine C} {p : ℕ → ℕ} {R : ℕ →
       store = λ s sn. h .seat s sn .store;
       window = h .window;
     };
-    neat = λ s sn. ⊎-elim (λ a. a) (λ a. absurd (omega (arith, a .wrong, e s sn))) (h .seat s sn .kind);
+    neat = λ s sn. ⊎-elim (λ a. a) (λ a. absurd (omega (arith, a .«first_incorrect_count», e s sn))) (h .seat s sn .kind);
   }
 
   pub lowest-going : (h : Sound n L K p R D) (m : ℕ) → Lowest n m D → Going L m (h .floor) (D .current)
   lowest-going h m l =
       ⊎-elim
-      (λ a. absurd (omega (arith, a .right, l .wrong)))
+      (λ a. absurd (omega (arith, a .right, l .«first_incorrect_count»)))
       (λ a.
-      let e : a .m ≡ m = omega (arith, a .wrong, l .wrong) in
+      let e : a .m ≡ m = omega (arith, a .«first_incorrect_count», l .«first_incorrect_count») in
       record { past = omega (arith, a .past); near = omega (arith, a .near); kept = omega (arith, a .kept) })
       (h .seat (l .who) (l .seat) .kind)
 
@@ -247,14 +247,14 @@ module _ {n L : ℕ} {C : Type 0} {K : Machine C} {p : ℕ → ℕ} {R : ℕ →
       (reset-clean (λ f. E .row f s) m (omega (arith, g .past)) (l .least s sn) (λ f x y. k .row f s sn y) (h .seat s sn .kind))
 
   -- confirming
-  pub discarded-quiet : (g : ℕ) (E : View C) → Quiet n L K p R D → ((s : ℕ) → s < n → g ≤ D .queue s .added) → g ≤ D .current → Discarded n g D E → Quiet n L K p R E
+  pub discarded-quiet : (g : ℕ) (E : View C) → Quiet n L K p R D → ((s : ℕ) → s < n → g ≤ D .queue s .«last_added_count») → g ≤ D .current → Discarded n g D E → Quiet n L K p R E
   discarded-quiet g E q room gc k =
       ⊎-elim
       (λ a. made (q .floor) (omega (arith, a .0)) (omega arith) (q .mid .low) (λ s sn. q .mid .store s sn .floor))
       (λ a. made g (omega arith) (omega (arith, a .0)) gc room)
       (split-ltb g (q .floor))
     where
-      made : (B : ℕ) → g ≤ B → q .floor ≤ B → B ≤ D .current → ((s : ℕ) → s < n → B ≤ D .queue s .added) → Quiet n L K p R E
+      made : (B : ℕ) → g ≤ B → q .floor ≤ B → B ≤ D .current → ((s : ℕ) → s < n → B ≤ D .queue s .«last_added_count») → Quiet n L K p R E
       made B x y z v = record {
         floor = B;
         mid = record {
@@ -272,7 +272,7 @@ module _ {n L : ℕ} {C : Type 0} {K : Machine C} {p : ℕ → ℕ} {R : ℕ →
       }
 
   -- before the frame of an advance that is not refused: the window moves on
-  pub quiet-next : (q : Quiet n L K p R D) → ((s : ℕ) → s < n → D .current < D .queue s .added + L)
+  pub quiet-next : (q : Quiet n L K p R D) → ((s : ℕ) → s < n → D .current < D .queue s .«last_added_count» + L)
       → Mid n L K p R (suc (D .current) - suc L) (suc (D .current)) (q .floor) D × Cleans n p R (suc (D .current) - suc L) D
   quiet-next q near = (
     record {
@@ -294,17 +294,17 @@ module _ {n L : ℕ} {C : Type 0} {K : Machine C} {p : ℕ → ℕ} {R : ℕ →
         record { right = c .right; mode = c .mode; served = served-later (suc (D .current) - suc L) (omega arith) (c .served) },
   )
 
-  pub settled-word : Sound n L K p R D → (f : ℕ) → Settled n L D f → (g s : ℕ) → s < n → D .current - suc L ≤ g → g ≤ f → D .row g s ≡ R s g
+  pub settled-word : Sound n L K p R D → (f : ℕ) → SeatsSettled n L D f → (g s : ℕ) → s < n → D .current - suc L ≤ g → g ≤ f → D .row g s ≡ R s g
   settled-word h f t g s sn x y =
       ⊎-elim
       (λ a. a .served .below g x (omega (arith, t .past)) (omega (arith, t .known s sn)))
-      (λ a. a .below g x (⊎-elim (λ o. absurd (omega (arith, o, a .wrong))) (λ o. omega (arith, o, a .wrong)) (t .right s sn)))
+      (λ a. a .below g x (⊎-elim (λ o. absurd (omega (arith, o, a .«first_incorrect_count»))) (λ o. omega (arith, o, a .«first_incorrect_count»)) (t .right s sn)))
       (h .seat s sn .kind)
 
-  pub settled-row : Sound n L K p R D → (f : ℕ) → Settled n L D f → rowOf n (D .row f) ≡ rowOf n (λ s. R s f)
+  pub settled-row : Sound n L K p R D → (f : ℕ) → SeatsSettled n L D f → rowOf n (D .row f) ≡ rowOf n (λ s. R s f)
   settled-row h f t = row-same n (D .row f) (λ s. R s f) (λ s sn. settled-word h f t f s sn (omega (arith, t .slot)) (omega arith))
 
-  pub settled-state : Sound n L K p R D → (f : ℕ) → Settled n L D f → K .step (D .state f) (rowOf n (D .row f)) ≡ refState n K R (suc f)
+  pub settled-state : Sound n L K p R D → (f : ℕ) → SeatsSettled n L D f → K .step (D .state f) (rowOf n (D .row f)) ≡ refState n K R (suc f)
   unfolding stateBefore
   settled-state h f t =
       ap₂ (K .step)

@@ -157,30 +157,30 @@ module _ (step : Console → List ℕ → Console) (p : ℕ → ℕ) where
 
 -- what the desk's own work leaves alone in a queue
 pub record Alike (q t : QueueState) : Type 0 where
-  pub delay : t .delay ≡ q .delay
-  pub user : t .user ≡ q .user
-  pub added : t .added ≡ q .added
+  pub «frame_delay» : t .«frame_delay» ≡ q .«frame_delay»
+  pub «last_user_count» : t .«last_user_count» ≡ q .«last_user_count»
+  pub «last_added_count» : t .«last_added_count» ≡ q .«last_added_count»
 
 abbrev pub Kept : ℕ → Desk → Desk → Type 0
 Kept n d e = (s : ℕ) → s < n → Alike (queueOf d s) (queueOf e s)
 
 alike-refl : (q : QueueState) → Alike q q
-alike-refl q = record { delay = refl; user = refl; added = refl }
+alike-refl q = record { «frame_delay» = refl; «last_user_count» = refl; «last_added_count» = refl }
 
 alike-via : {q r t : QueueState} → Alike q r → Alike r t → Alike q t
-alike-via a b = record { delay = b .delay ∙ a .delay; user = b .user ∙ a .user; added = b .added ∙ a .added }
+alike-via a b = record { «frame_delay» = b .«frame_delay» ∙ a .«frame_delay»; «last_user_count» = b .«last_user_count» ∙ a .«last_user_count»; «last_added_count» = b .«last_added_count» ∙ a .«last_added_count» }
 
 alike-asked : (p at : ℕ → ℕ) (q : QueueState) (f : ℕ) → Alike q (asked p at q f)
 unfolding asked
-alike-asked p at q f = record { delay = refl; user = refl; added = refl }
+alike-asked p at q f = record { «frame_delay» = refl; «last_user_count» = refl; «last_added_count» = refl }
 
 alike-reset : (q : QueueState) → Alike q (reset q)
 unfolding reset
-alike-reset q = record { delay = refl; user = refl; added = refl }
+alike-reset q = record { «frame_delay» = refl; «last_user_count» = refl; «last_added_count» = refl }
 
 alike-discard : (q : QueueState) (f : ℕ) → Alike q (discard q f)
 unfolding discard
-alike-discard q f = record { delay = refl; user = refl; added = refl }
+alike-discard q f = record { «frame_delay» = refl; «last_user_count» = refl; «last_added_count» = refl }
 
 pub own-shape : {n L : ℕ} (d : Desk) → Shape n L d → Shape (d .state .seats) (d .state .limit) d
 own-shape d s = record {
@@ -286,12 +286,12 @@ module _ (step : Console → List ℕ → Console) (p : ℕ → ℕ) (n L : ℕ)
   -- the lowest mismatch
   pub lowest-of : (d : Desk) → Shape n L d → mismatchOf d ≢ 0 → Lowest n (mismatchOf d - 1) (viewOf d)
   lowest-of d s z =
-      let w = lowest-who (d .state .seats) (λ t. queueOf d t .wrong) z in
+      let w = lowest-who (d .state .seats) (λ t. queueOf d t .«first_incorrect_count») z in
       record {
         who = w .0;
         seat = omega (arith, w .1, s .seats);
-        wrong = omega (arith, w .2);
-        least = λ t h o. omega (arith, lowest-le (d .state .seats) (λ t. queueOf d t .wrong) t (omega (arith, s .seats)) o);
+        «first_incorrect_count» = omega (arith, w .2);
+        least = λ t h o. omega (arith, lowest-le (d .state .seats) (λ t. queueOf d t .«first_incorrect_count») t (omega (arith, s .seats)) o);
       }
 
   discard-shape : (d : Desk) (g : ℕ) → Shape n L d → Shape n L (discardAll d g)
@@ -334,7 +334,7 @@ module _ (step : Console → List ℕ → Console) (p : ℕ → ℕ) (n L : ℕ)
             simp (a .1)
             (record {
               shape = s;
-              quiet = sound-quiet h (λ t x. lowest-none (d .state .seats) (λ t. queueOf d t .wrong) (a .0) t (omega (arith, s .seats)));
+              quiet = sound-quiet h (λ t x. lowest-none (d .state .seats) (λ t. queueOf d t .«first_incorrect_count») (a .0) t (omega (arith, s .seats)));
               current = refl;
               kept = λ t x. alike-refl (queueOf d t);
             })
@@ -383,7 +383,7 @@ module _ (step : Console → List ℕ → Console) (p : ℕ → ℕ) (n L : ℕ)
         thrown g x y = record {
           shape = discard-shape d g s;
           quiet = discarded-quiet g (viewOf (discardAll d g)) q
-              (λ t h. le-via x (least-le (d .state .seats - 1) (λ t. queueOf d t .added) t (below-last t h (s .seats))))
+              (λ t h. le-via x (least-le (d .state .seats - 1) (λ t. queueOf d t .«last_added_count») t (below-last t h (s .seats))))
               y
               (discard-view d g s);
           current = discard-view d g s .current;
@@ -437,9 +437,9 @@ module _ (step : Console → List ℕ → Console) (p : ℕ → ℕ) (n L : ℕ)
     pub kept : Kept n d e
 
   -- every seat is within the limit, after the settle too
-  pub settled-near : (d : Desk) → Shape n L d → Allowed d → (t : ℕ) → t < n → suc (d .state .current) ≤ queueOf d t .added + L
+  pub settled-near : (d : Desk) → Shape n L d → Allowed d → (t : ℕ) → t < n → suc (d .state .current) ≤ queueOf d t .«last_added_count» + L
   settled-near d s a t x =
-      omega (arith, a .near, s .limit, least-le (d .state .seats - 1) (λ t. queueOf d t .added) t (below-last t x (s .seats)))
+      omega (arith, a .near, s .limit, least-le (d .state .seats - 1) (λ t. queueOf d t .«last_added_count») t (below-last t x (s .seats)))
 
   pub advance-next : (d : Desk) → Shape n L d → Sound n L (stepping step) p R (viewOf d) → Next d (advance step p d)
   unfolding advance
@@ -453,7 +453,7 @@ module _ (step : Console → List ℕ → Console) (p : ℕ → ℕ) (n L : ℕ)
       moves a =
           let r = settle-done step p n L d s h in
           let e = settle step p d in
-          let k = quiet-next (r .quiet) (λ t x. omega (arith, settled-near d s a t x, r .current, r .kept t x .added)) in
+          let k = quiet-next (r .quiet) (λ t x. omega (arith, settled-near d s a t x, r .current, r .kept t x .«last_added_count»)) in
           let f = framed-at step p n L e (r .shape) in
           let lt : e .state .current < suc (e .state .current) = omega arith in
           record {

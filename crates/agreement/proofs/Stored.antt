@@ -10,7 +10,7 @@ use lib.Seq.{getD-append-seam, getD-append-add}
 use Rattle.frame_info.proofs.Split.{split-eqb, split-ltb}
 use Rattle.input_queue.specs.Queue.{newest}
 use Rattle.input_queue.specs.Runs.{placed}
-use Rattle.agreement.specs.Reference.{refWord}
+use Rattle.agreement.specs.Reference.{refWord, placesOf}
 use Rattle.agreement.proofs.Take.{readAt, fillList, snoc-length, fillList-length, placed-tossed, placed-stored}
 
 -- what is stored behind s after the words l of frames n, n + 1, .., with delay d
@@ -125,10 +125,9 @@ stored-closed d l = closed-from d [] l
 pub stored-word : (d : ℕ) (l : List ℕ) (f : ℕ) → f < length (stored d l) → readAt (stored d l) f ≡ refWord d l f
 stored-word d l f h = rw (stored-closed d l) (closed-word d l f (rw (stored-closed d l) at h))
 
--- at most d fills
-pub stored-few : (d : ℕ) (l : List ℕ) → length (stored d l) ≤ length l + d
-stored-few d l = rw (stored-closed d l) (closed-few d l)
-  where
-    closed-few : (d : ℕ) (l : List ℕ) → length (closed d l) ≤ length l + d
-    closed-few d [] = unfold closed in omega arith
-    closed-few d (w ∷ l) = unfold closed in omega (arith, length-append (fillList d 0 []) (w ∷ l), fillList-length d 0 [])
+-- and it has as many places
+pub stored-places : (d : ℕ) (l : List ℕ) → length (stored d l) ≡ placesOf d l
+unfolding closed placesOf
+stored-places d [] = ap length (stored-closed d [])
+stored-places d (w ∷ l) =
+    ap length (stored-closed d (w ∷ l)) ∙ omega (arith, length-append (fillList d 0 []) (w ∷ l), fillList-length d 0 [])

@@ -22,7 +22,7 @@ use Rattle.agreement.proofs.Steps.{wordsOf}
 
 -- what is known of a seat depends on the reference's words below its newest place alone ----------------------------------------------
 
-module _ {p R at S : ℕ → ℕ} {b c L B : ℕ} {q : QueueState} (Q : ℕ → ℕ) (same : (f : ℕ) → f < q .added → Q f ≡ R f) where
+module _ {p R at S : ℕ → ℕ} {b c L B : ℕ} {q : QueueState} (Q : ℕ → ℕ) (same : (f : ℕ) → f < q .«last_added_count» → Q f ≡ R f) where
   seat-agree : Seat p R at S b c L B q → Seat p Q at S b c L B q
   seat-agree h = record {
     store = record {
@@ -36,8 +36,8 @@ module _ {p R at S : ℕ → ℕ} {b c L B : ℕ} {q : QueueState} (Q : ℕ → 
     kind = ⊎-elim (λ n. inl (neat n)) (λ n. inr (broken n)) (h .kind);
   }
     where
-      guess : fresh p R (q .added) ≡ fresh p Q (q .added)
-      guess = fresh-same p Q R (q .added) (λ f x y. sym (same f x))
+      guess : fresh p R (q .«last_added_count») ≡ fresh p Q (q .«last_added_count»)
+      guess = fresh-same p Q R (q .«last_added_count») (λ f x y. sym (same f x))
 
       neat : Neat p R S b c q → Neat p Q S b c q
       neat n = record {
@@ -52,7 +52,7 @@ module _ {p R at S : ℕ → ℕ} {b c L B : ℕ} {q : QueueState} (Q : ℕ → 
       broken : Broken R S b c L B q → Broken Q S b c L B q
       broken n = record {
         m = n .m;
-        wrong = n .wrong;
+        «first_incorrect_count» = n .«first_incorrect_count»;
         stored = n .stored;
         past = n .past;
         near = n .near;
@@ -70,7 +70,7 @@ seat-used f h = record {
         mode = ⊎-elim (λ a. inl a) (λ a. inr (a .0, a .1, record { at-frame = a .2 .at-frame; missing = a .2 .missing; word = a .2 .word })) (n .mode);
         served = record { below = n .served .below; above = n .served .above };
       }))
-      (λ n. inr (record { m = n .m; wrong = n .wrong; stored = n .stored; past = n .past; near = n .near; kept = n .kept; below = n .below }))
+      (λ n. inr (record { m = n .m; «first_incorrect_count» = n .«first_incorrect_count»; stored = n .stored; past = n .past; near = n .near; kept = n .kept; below = n .below }))
       (h .kind);
 }
 
@@ -78,11 +78,11 @@ seat-used f h = record {
 
 pub fill-same : (k : ℕ) (q : QueueState) (w : ℕ) → Same q (fill k q w)
 unfolding fill
-fill-same zero q w = record { delay = refl; user = refl; oldest = refl; requested = refl; guess = refl }
+fill-same zero q w = record { «frame_delay» = refl; «last_user_count» = refl; oldest = refl; «last_requested_count» = refl; prediction = refl }
 fill-same (suc k) q w =
     let a = fill-same k q w in
     let b = put-same (fill k q w) w in
-    record { delay = b .delay ∙ a .delay; user = b .user ∙ a .user; oldest = b .oldest ∙ a .oldest; requested = b .requested ∙ a .requested; guess = b .guess ∙ a .guess }
+    record { «frame_delay» = b .«frame_delay» ∙ a .«frame_delay»; «last_user_count» = b .«last_user_count» ∙ a .«last_user_count»; oldest = b .oldest ∙ a .oldest; «last_requested_count» = b .«last_requested_count» ∙ a .«last_requested_count»; prediction = b .prediction ∙ a .prediction }
 
 pub fill-length : (k : ℕ) (l : List ℕ) (s n w : ℕ) → length (fillWords k l (ringOf s) n w) ≡ length l
 unfolding fillWords
@@ -128,7 +128,7 @@ module _ {p S : ℕ → ℕ} {b c L B : ℕ} (z : p 0 ≡ 0) (i : (v : ℕ) → 
   -- storing w behind the words a, in the next place
   seat-put : {q : QueueState} (a l : List ℕ) (s n w : ℕ)
       → Seat p (readAt a) (wordsOf l s) S b c L B q
-      → q .added ≡ length a
+      → q .«last_added_count» ≡ length a
       → length a ≡ n
       → s * 128 + 128 ≤ length l
       → n < q .oldest + 128
@@ -136,8 +136,8 @@ module _ {p S : ℕ → ℕ} {b c L B : ℕ} (z : p 0 ≡ 0) (i : (v : ℕ) → 
   seat-put {q} a l s n w h e e′ long room =
       let R = readAt (a ++ (w ∷ [])) in
       let h′ = seat-agree R (λ f x. List·getD-append a (w ∷ []) 0 f (omega arith)) h in
-      let r : R (q .added) ≡ w = rw e (getD-append-seam a w [] 0) in
-      let n′ : q .added ≡ n = e ∙ e′ in
+      let r : R (q .«last_added_count») ≡ w = rw e (getD-append-seam a w [] 0) in
+      let n′ : q .«last_added_count» ≡ n = e ∙ e′ in
       record {
         store = put-stored w (wordsOf (putWord l (ringOf s) n w) s) (h′ .store) (omega arith) r
             (λ f x y. getD-set-other l (spot (ringOf s) n) (spot (ringOf s) f) w 0 (λ o. omega arith))
@@ -147,7 +147,7 @@ module _ {p S : ℕ → ℕ} {b c L B : ℕ} (z : p 0 ≡ 0) (i : (v : ℕ) → 
 
   seat-fill : (k : ℕ) {q : QueueState} (a l : List ℕ) (s n w : ℕ)
       → Seat p (readAt a) (wordsOf l s) S b c L B q
-      → q .added ≡ length a
+      → q .«last_added_count» ≡ length a
       → length a ≡ n
       → s * 128 + 128 ≤ length l
       → n + k ≤ q .oldest + 128
@@ -165,21 +165,21 @@ module _ {p S : ℕ → ℕ} {b c L B : ℕ} (z : p 0 ≡ 0) (i : (v : ℕ) → 
 -- accepting a word -------------------------------------------------------------------------------------------------------------------
 
 -- tossed, or stored
-add-tossed : (at : ℕ → ℕ) (q : QueueState) (f w : ℕ) → f + q .delay < q .added → add at q f w ≡ used q f
+add-tossed : (at : ℕ → ℕ) (q : QueueState) (f w : ℕ) → f + q .«frame_delay» < q .«last_added_count» → add at q f w ≡ used q f
 unfolding add
 add-tossed at q f w h = simp (lt-ltb _ _ h)
 
-add-stored : (at : ℕ → ℕ) (q : QueueState) (f w : ℕ) → q .added ≤ f + q .delay
-    → add at q f w ≡ put (fill (f + q .delay - q .added) (used q f) (newest at (q .added))) w
+add-stored : (at : ℕ → ℕ) (q : QueueState) (f w : ℕ) → q .«last_added_count» ≤ f + q .«frame_delay»
+    → add at q f w ≡ put (fill (f + q .«frame_delay» - q .«last_added_count») (used q f) (newest at (q .«last_added_count»))) w
 unfolding add
 add-stored at q f w h = simp (le-ltb _ _ h)
 
-addWords-tossed : (l : List ℕ) (s : ℕ) (q : QueueState) (f w : ℕ) → f + q .delay < q .added → addWords l (ringOf s) q f w ≡ l
+addWords-tossed : (l : List ℕ) (s : ℕ) (q : QueueState) (f w : ℕ) → f + q .«frame_delay» < q .«last_added_count» → addWords l (ringOf s) q f w ≡ l
 unfolding addWords
 addWords-tossed l s q f w h = simp (lt-ltb _ _ h)
 
-addWords-stored : (l : List ℕ) (s : ℕ) (q : QueueState) (f w : ℕ) → q .added ≤ f + q .delay
-    → addWords l (ringOf s) q f w ≡ putWord (fillWords (f + q .delay - q .added) l (ringOf s) (q .added) (newest (wordsOf l s) (q .added))) (ringOf s) (f + q .delay) w
+addWords-stored : (l : List ℕ) (s : ℕ) (q : QueueState) (f w : ℕ) → q .«last_added_count» ≤ f + q .«frame_delay»
+    → addWords l (ringOf s) q f w ≡ putWord (fillWords (f + q .«frame_delay» - q .«last_added_count») l (ringOf s) (q .«last_added_count») (newest (wordsOf l s) (q .«last_added_count»))) (ringOf s) (f + q .«frame_delay») w
 unfolding addWords
 addWords-stored l s q f w h = simp (le-ltb _ _ h)
 
@@ -197,9 +197,9 @@ addWords-other l s q f w t g d =
     (λ a. rw (addWords-tossed l s q f w (a .0)))
     (λ a.
     rw (addWords-stored l s q f w (a .0))
-    (getD-set-other (fillWords (f + q .delay - q .added) l (ringOf s) (q .added) (newest (wordsOf l s) (q .added))) (spot (ringOf s) (f + q .delay)) (spot (ringOf t) g) w 0 (λ e. omega (arith, d))
-    ∙ fill-other (f + q .delay - q .added) l s (q .added) (newest (wordsOf l s) (q .added)) t g d))
-    (split-ltb (f + q .delay) (q .added))
+    (getD-set-other (fillWords (f + q .«frame_delay» - q .«last_added_count») l (ringOf s) (q .«last_added_count») (newest (wordsOf l s) (q .«last_added_count»))) (spot (ringOf s) (f + q .«frame_delay»)) (spot (ringOf t) g) w 0 (λ e. omega (arith, d))
+    ∙ fill-other (f + q .«frame_delay» - q .«last_added_count») l s (q .«last_added_count») (newest (wordsOf l s) (q .«last_added_count»)) t g d))
+    (split-ltb (f + q .«frame_delay») (q .«last_added_count»))
 
 -- the newest word alone counts
 newest-same : (R at : ℕ → ℕ) (n : ℕ) → ((f : ℕ) → f < n → n ≤ f + 128 → at f ≡ R f) → newest at n ≡ newest R n
@@ -207,60 +207,60 @@ newest-same R at zero h = refl
 newest-same R at (suc n) h = newest-some at n ∙ h n (omega arith) (omega arith) ∙ sym (newest-some R n)
 
 pub record Added (q t : QueueState) (a : List ℕ) (f : ℕ) : Type 0 where
-  pub delay : t .delay ≡ q .delay
-  pub user : t .user ≡ suc f
-  pub added : t .added ≡ length a
+  pub «frame_delay» : t .«frame_delay» ≡ q .«frame_delay»
+  pub «last_user_count» : t .«last_user_count» ≡ suc f
+  pub «last_added_count» : t .«last_added_count» ≡ length a
 
-module _ (q : QueueState) (a : List ℕ) (at : ℕ → ℕ) (f w : ℕ) (e : q .added ≡ length a) where
-  pub add-added : Added q (add at q f w) (placed a (f + q .delay) w) f
+module _ (q : QueueState) (a : List ℕ) (at : ℕ → ℕ) (f w : ℕ) (e : q .«last_added_count» ≡ length a) where
+  pub add-added : Added q (add at q f w) (placed a (f + q .«frame_delay») w) f
   add-added =
       ⊎-elim
       (λ x.
-      let y : f + q .delay < length a = omega (arith, x .0) in
-      rw (add-tossed at q f w (x .0), placed-tossed a (f + q .delay) w y)
-      (record { delay = refl; user = add-one f; added = e }))
+      let y : f + q .«frame_delay» < length a = omega (arith, x .0) in
+      rw (add-tossed at q f w (x .0), placed-tossed a (f + q .«frame_delay») w y)
+      (record { «frame_delay» = refl; «last_user_count» = add-one f; «last_added_count» = e }))
       (λ x.
-      let y : length a ≤ f + q .delay = omega (arith, x .0) in
-      let v = newest at (q .added) in
+      let y : length a ≤ f + q .«frame_delay» = omega (arith, x .0) in
+      let v = newest at (q .«last_added_count») in
       let v′ = newest (readAt a) (length a) in
-      let n = f + q .delay - q .added in
-      let m = f + q .delay - length a in
+      let n = f + q .«frame_delay» - q .«last_added_count» in
+      let m = f + q .«frame_delay» - length a in
       let t = fill n (used q f) v in
       let k = put-same t w in
       let k′ = fill-same n (used q f) v in
-      rw (add-stored at q f w (x .0), placed-stored a (f + q .delay) w y)
+      rw (add-stored at q f w (x .0), placed-stored a (f + q .«frame_delay») w y)
       (record {
-        delay = k .delay ∙ k′ .delay;
-        user = k .user ∙ k′ .user ∙ add-one f;
-        added = omega (arith, put-added t w, fill-added n (used q f) v, snoc-length (fillList m v′ a) w, fillList-length m v′ a);
+        «frame_delay» = k .«frame_delay» ∙ k′ .«frame_delay»;
+        «last_user_count» = k .«last_user_count» ∙ k′ .«last_user_count» ∙ add-one f;
+        «last_added_count» = omega (arith, put-added t w, fill-added n (used q f) v, snoc-length (fillList m v′ a) w, fillList-length m v′ a);
       }))
-      (split-ltb (f + q .delay) (q .added))
+      (split-ltb (f + q .«frame_delay») (q .«last_added_count»))
 
 module _ {p S : ℕ → ℕ} {b c L B : ℕ} (z : p 0 ≡ 0) (i : (v : ℕ) → p (p v) ≡ p v) where
   -- a word for frame f, tossed or stored
   pub seat-add : (a : List ℕ) (q : QueueState) (l : List ℕ) (s f w : ℕ)
-      → q .added ≡ length a
+      → q .«last_added_count» ≡ length a
       → Seat p (readAt a) (wordsOf l s) S b c L B q
       → s * 128 + 128 ≤ length l
-      → (f + q .delay < q .added) ⊎ (f + q .delay < q .oldest + 128)
-      → Seat p (readAt (placed a (f + q .delay) w)) (wordsOf (addWords l (ringOf s) q f w) s) S b c L B (add (wordsOf l s) q f w)
+      → (f + q .«frame_delay» < q .«last_added_count») ⊎ (f + q .«frame_delay» < q .oldest + 128)
+      → Seat p (readAt (placed a (f + q .«frame_delay») w)) (wordsOf (addWords l (ringOf s) q f w) s) S b c L B (add (wordsOf l s) q f w)
   seat-add a q l s f w e h long may =
       ⊎-elim
       (λ x.
-      let y : f + q .delay < length a = omega (arith, x .0) in
-      rw (add-tossed (wordsOf l s) q f w (x .0), addWords-tossed l s q f w (x .0), placed-tossed a (f + q .delay) w y) (seat-used f h))
+      let y : f + q .«frame_delay» < length a = omega (arith, x .0) in
+      rw (add-tossed (wordsOf l s) q f w (x .0), addWords-tossed l s q f w (x .0), placed-tossed a (f + q .«frame_delay») w y) (seat-used f h))
       (λ x.
-      let y : length a ≤ f + q .delay = omega (arith, x .0) in
-      let room : f + q .delay < q .oldest + 128 = ⊎-elim (λ o. absurd (omega (arith, o, x .0))) (λ o. o) may in
-      let v = newest (wordsOf l s) (q .added) in
-      let n = f + q .delay - q .added in
-      let ev : newest (readAt a) (length a) ≡ v = sym (newest-same (readAt a) (wordsOf l s) (q .added) (h .store .at-is) ∙ ap (newest (readAt a)) e) in
-      let en : f + q .delay - length a ≡ n = omega arith in
-      rw (add-stored (wordsOf l s) q f w (x .0), addWords-stored l s q f w (x .0), placed-stored a (f + q .delay) w y, ev, en)
-      (seat-put z i {q = fill n (used q f) v} (fillList n v a) (fillWords n l (ringOf s) (q .added) v) s (f + q .delay) w
-      (seat-fill z i n a l s (q .added) v (seat-used f h) e (sym e) long (omega (arith, x .0)))
+      let y : length a ≤ f + q .«frame_delay» = omega (arith, x .0) in
+      let room : f + q .«frame_delay» < q .oldest + 128 = ⊎-elim (λ o. absurd (omega (arith, o, x .0))) (λ o. o) may in
+      let v = newest (wordsOf l s) (q .«last_added_count») in
+      let n = f + q .«frame_delay» - q .«last_added_count» in
+      let ev : newest (readAt a) (length a) ≡ v = sym (newest-same (readAt a) (wordsOf l s) (q .«last_added_count») (h .store .at-is) ∙ ap (newest (readAt a)) e) in
+      let en : f + q .«frame_delay» - length a ≡ n = omega arith in
+      rw (add-stored (wordsOf l s) q f w (x .0), addWords-stored l s q f w (x .0), placed-stored a (f + q .«frame_delay») w y, ev, en)
+      (seat-put z i {q = fill n (used q f) v} (fillList n v a) (fillWords n l (ringOf s) (q .«last_added_count») v) s (f + q .«frame_delay») w
+      (seat-fill z i n a l s (q .«last_added_count») v (seat-used f h) e (sym e) long (omega (arith, x .0)))
       (omega (arith, fill-added n (used q f) v, fillList-length n v a))
       (omega (arith, fillList-length n v a, x .0))
-      (omega (arith, fill-length n l s (q .added) v))
+      (omega (arith, fill-length n l s (q .«last_added_count») v))
       (omega (arith, fill-same n (used q f) v .oldest))))
-      (split-ltb (f + q .delay) (q .added))
+      (split-ltb (f + q .«frame_delay») (q .«last_added_count»))

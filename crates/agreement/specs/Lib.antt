@@ -1,4 +1,5 @@
 pub mod Reference
 pub mod Tried
 pub mod Statement
-pub mod Compared
+pub mod Chain
+pub mod ChainValue

@@ -9,7 +9,6 @@ use Prim.{absurd}
 use mathlib.Core.Logic.{_⊎_, ⊎-elim}
 use lib.ListN.{length, take, drop, getD, length-drop, length-take, length-append, drop-of-length-le}
 use lib.Seq.{drop-cons, drop-drop}
-use lib.Dec.{leb}
 use borrow.Author.Tests.{le-leb, lt-leb}
 use Rattle.frame_info.proofs.Split.{split-leb}
 use Rattle.compression.specs.Layout.{sizeOf, Reading, whole, half, short, after, recordsIn, records, joined}

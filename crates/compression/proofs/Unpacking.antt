@@ -1,20 +1,24 @@
 -- A whole packet, unpacked record by record. Assumes nothing.
-use Prim.Native.Nat.{ℕ, zero, suc, _+_, _-_, _<_, _≤_}
-use native.Mathlib.Nat.{zero-add, add-zero, add-assoc}
+use Prim.Native.Nat.{ℕ, suc, _+_, _-_, _<_, _≤_}
+use native.Mathlib.Nat.{zero-add, add-zero}
 use native.Mathlib.Omega.{arith}
 use mathlib.Core.Path.{_≡_, refl, ap, ap₂, sym, _∙_}
-use mathlib.Core.Logic.{_⊎_, ⊎-elim}
+use mathlib.Core.Logic.{⊎-elim}
 use mathlib.Core.List.{List, [], _∷_, _++_}
 use Prim.{absurd}
-use lib.ListN.{length, take, drop, getD, set, length-append, length-drop, length-take, drop-of-length-le}
+use lib.ListN.{length, take, drop, getD, set, length-append, length-drop, length-take}
 use lib.Seq.{paste, getD-drop, drop-drop, length-paste}
-use Rattle.frame_info.proofs.Split.{split-leb}
-use Rattle.compression.specs.Layout.{masked, sizeOf, Reading, whole, half, short, after, records, restored, joined, lengthsOf}
-use Rattle.compression.specs.Promise.{over, inputsOf}
+use types.Run.{OneOf}
+use denote.Enum.Declared.{tagOf}
+use Rattle.compression.specs.Layout.{masked, Reading, whole, half, short, after, records, restored, joined, lengthsOf}
+use Rattle.compression.specs.Promise.{over, inputsOf, firstOf}
 use Rattle.compression.specs.Inside.{baseAt}
+use Rattle.compression.specs.declared.Record.{Record}
+use Rattle.compression.specs.declared.Record.the-variants.{End, Half, Short, Whole}
+use Rattle.compression.proofs.Record as S
 use Rattle.compression.proofs.Lists.{grown, grown-rest, paste-over, pasted-part, Laid, laid-none, laid-one, laid-all}
 use Rattle.compression.proofs.Masking.{length-masked}
-use Rattle.compression.proofs.Reading.{sizeAt, Next, next-of, records-half, records-short, records-none}
+use Rattle.compression.proofs.Reading.{Next, reads-end, reads-half, reads-short, reads-whole}
 use Rattle.compression.proofs.Packing.{base-after}
 
 -- an input is as long as its record's bytes, so lengths are known before anything is unmasked
@@ -40,22 +44,13 @@ unfolding restored
 count-restored base [] = refl
 count-restored base (body ∷ bodies) = ap suc (count-restored _ bodies)
 
--- where bytes are left in a whole packet, a whole record stands
-whole-next : (q : List ℕ) (bodies : List (List ℕ)) → 0 < length q → records q ≡ whole bodies → Next q (sizeAt q 0)
-whole-next [] bodies h e = absurd (omega arith)
-whole-next (x ∷ []) bodies h e =
-    let d = records-half x in absurd (let z : _≡_ {A = ℕ} 0 1 = cc in omega arith)
-whole-next (x ∷ y ∷ q) bodies h e =
-    ⊎-elim
-    (λ w. next-of x y q (w .0))
-    (λ w. let d = records-short x y q (w .0) in absurd (let z : _≡_ {A = ℕ} 0 1 = cc in omega arith))
-    (split-leb (sizeOf x y) (length q))
-
-pub whole-at : (p : List ℕ) (at : ℕ) (bodies : List (List ℕ)) → at < length p → records (drop at p) ≡ whole bodies → Next (drop at p) (sizeAt p at)
-whole-at p at bodies h e =
-    let k : sizeAt (drop at p) 0 ≡ sizeAt p at =
-    ap₂ sizeOf (getD-drop at p 0 0 ∙ ap (λ (n : ℕ). getD p n 0) (add-zero at)) (getD-drop at p (0 + 1) 0) in
-    rw (← k) (whole-next (drop at p) bodies (omega (arith, length-drop at p)) e)
+-- where no whole record stands in what is left of a whole packet, nothing is left
+pub ends : (q : List ℕ) (bodies : List (List ℕ)) (f : Record) → f ≡ firstOf q → OneOf (0 ∷ 1 ∷ 2 ∷ []) (tagOf S.the-type f) → records q ≡ whole bodies
+    → bodies ≡ []
+ends q bodies End e t w = let d = reads-end q (sym e) in cc
+ends q bodies Half e t w = let d = reads-half q (sym e) in absurd (let z : _≡_ {A = ℕ} 0 1 = cc in omega arith)
+ends q bodies Short e t w = let d = reads-short q (sym e) in absurd (let z : _≡_ {A = ℕ} 0 1 = cc in omega arith)
+ends q bodies (Whole n) e t w = ⊎-elim (λ h. absurd (omega arith)) (⊎-elim (λ h. absurd (omega arith)) (λ h. absurd (omega arith))) t
 
 -- what is left of a whole packet is whole
 after-whole : (body : List ℕ) (r : Reading) (bodies : List (List ℕ)) → after body r ≡ whole bodies → r ≡ whole (inputsOf r)
@@ -105,15 +100,13 @@ module _ (reference packet d e : List ℕ) where
           sizes-rest = lengths-restored reference (inputsOf (records packet));
         }
 
-    module _ (at k from upto : ℕ) (out lengths : List ℕ) (s : Unpacks at k from upto out lengths) (h : at < length packet) where
-      abbrev size : ℕ
-      size = sizeAt packet at
-
+    -- a whole record of this size stands at the place
+    module _ (at k from upto : ℕ) (out lengths : List ℕ) (s : Unpacks at k from upto out lengths) (size : ℕ) (w : Whole size ≡ firstOf (drop at packet)) where
       abbrev body : List ℕ
       body = take size (drop (at + 2) packet)
 
       next : Next (drop at packet) size
-      next = whole-at packet at (bodiesFrom at) h (s .good)
+      next = reads-whole (drop at packet) size (sym w)
 
       pub unpacks-fits : at + (2 + size) ≤ length packet
       unpacks-fits = omega (arith, next .fits, length-drop at packet)
@@ -177,9 +170,12 @@ module _ (reference packet d e : List ℕ) where
             count-restored reference (inputsOf (records packet)),
           )
 
-      unpacks-one : (out′ : List ℕ) → out′ ≡ paste out upto input (length body)
+      -- and is unpacked
+      pub unpacks-turn : (out′ b : List ℕ) → b ≡ body → out′ ≡ paste out upto (masked (baseAt reference out k from upto) b) (length b)
           → Unpacks (at + (2 + size)) (k + 1) upto (upto + size) out′ (set lengths k size)
-      unpacks-one out′ w =
+      unpacks-turn out′ b same put =
+          let w : out′ ≡ paste out upto input (length body) =
+          put ∙ ap (λ (l : List ℕ). paste out upto (masked (baseAt reference out k from upto) l) (length l)) same in
           let laid : out′ ≡ paste d 0 allBytes (upto + size) =
           w ∙ ap (λ (l : List ℕ). paste l upto input (length body)) (s .bytes .same)
           ∙ ap (paste (paste d 0 allBytes upto) upto input) (long-body ∙ sym long-input)
@@ -210,23 +206,8 @@ module _ (reference packet d e : List ℕ) where
             sizes-rest = grown-rest allLengths (size ∷ []) (lengthsOf (bodiesFrom (at + (2 + size)))) k sizes-next;
           }
 
-      -- the same in the loop's own words
-      pub unpacks-turn : (n : ℕ) → n ≡ size → (out′ : List ℕ)
-          → out′ ≡ paste out upto (masked (baseAt reference out k from upto) (take (at + 2 + n - (at + 2)) (drop (at + 2) packet)))
-          (length (take (at + 2 + n - (at + 2)) (drop (at + 2) packet)))
-          → Unpacks (at + 2 + n) (k + 1) upto (upto + n) out′ (set lengths k n)
-      unpacks-turn n f out′ w =
-          let gap : at + 2 + n - (at + 2) ≡ size = omega arith in
-          rw (f, add-assoc)
-          (unpacks-one out′
-          (w ∙ ap (λ (m : ℕ). paste out upto (masked (baseAt reference out k from upto) (take m (drop (at + 2) packet))) (length (take m (drop (at + 2) packet)))) gap))
-
     -- at the end of the packet nothing is left
-    module _ (at k from upto : ℕ) (out lengths : List ℕ) (s : Unpacks at k from upto out lengths) (h : length packet ≤ at) where
-      none : bodiesFrom at ≡ []
-      unfolding inputsOf
-      none = ap (λ (l : List ℕ). inputsOf (records l)) (drop-of-length-le packet h) ∙ ap inputsOf records-none
-
+    module _ (at k from upto : ℕ) (out lengths : List ℕ) (s : Unpacks at k from upto out lengths) (none : bodiesFrom at ≡ []) where
       pub unpacks-bytes : out ≡ over allBytes d
       unfolding restored joined
       unpacks-bytes =

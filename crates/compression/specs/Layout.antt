@@ -12,7 +12,11 @@ masked [] bytes = bytes
 masked (b ∷ base) [] = []
 masked (b ∷ base) (x ∷ bytes) = bitXor b x ∷ masked base bytes
 
--- a length is a u16, the low byte first
+-- a length is a u16, so below this
+abbrev pub lengthLimit : ℕ
+lengthLimit = 65536
+
+-- its low byte first
 abbrev pub sized : ℕ → List ℕ
 sized n = n % 256 ∷ n / 256 ∷ []
 

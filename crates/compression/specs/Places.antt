@@ -3,7 +3,7 @@ use Prim.Native.Nat.{ℕ, _<_}
 use mathlib.Core.Path.{_≡_}
 use mathlib.Core.List.{List, [], _∷_, _++_}
 use lib.ListN.{length}
-use Rattle.compression.specs.Layout.{packed, sizeOf}
+use Rattle.compression.specs.Layout.{lengthLimit, packed, sizeOf}
 
 -- bytes are numbers below 256
 unfoldable pub Bytes : List ℕ → Type 0
@@ -13,7 +13,7 @@ Bytes (x ∷ bytes) = (x < 256) × Bytes bytes
 -- inputs that can be lent: bytes, and lengths that a u16 holds
 unfoldable pub Lendable : List (List ℕ) → Type 0
 Lendable [] = Unit
-Lendable (input ∷ inputs) = (length input < 65536) × Bytes input × Lendable inputs
+Lendable (input ∷ inputs) = (length input < lengthLimit) × Bytes input × Lendable inputs
 
 -- one byte where a length should be: after some whole records, one byte is left
 pub record HalfAt (reference packet : List ℕ) : Type 0 where

@@ -7,11 +7,13 @@
 use frame_info::refusal;
 ghost use mathlib.Core.Path.{_≡_};
 ghost use Prim.Native.Nat.{_+_, _-_, _*_, _≤_, _<_, min};
-ghost use lib.ListN.{length, drop, getD};
+ghost use lib.ListN.{length, take, drop, getD};
 ghost use lib.Dec.{eqb};
 ghost use lib.Seq.{paste};
-ghost use Rattle.compression.specs.Layout.{masked, sizeOf, recordOf, packed, split, total, unpacked, records, restored, joined, lengthsOf, whole};
-ghost use Rattle.compression.specs.Promise.{packAnswer, packOut, unpackAnswer, unpackOut, unpackLengths, inputsOf, firstOf, numberOf, over, unpackRefused};
+ghost use Rattle.compression.specs.Layout.{lengthLimit, masked, sizeOf, recordOf, packed, split, total};
+ghost use Rattle.compression.specs.Layout.{unpacked, records, restored, joined, lengthsOf, whole};
+ghost use Rattle.compression.specs.Promise.{packAnswer, packOut, unpackAnswer, unpackOut, unpackLengths, unpackRefused};
+ghost use Rattle.compression.specs.Promise.{inputsOf, firstOf, numberOf, over};
 ghost use Rattle.compression.specs.Inside.{baseAt, counted};
 
 // What packing answers: its number, and how many bytes it wrote.
@@ -100,8 +102,9 @@ fn mask_all(base: &[u8], input: &[u8], out: &mut [u8], at: usize)
 
 // One input's record from at on: its length, and its bytes masked by the base.
 fn pack_one(base: &[u8], input: &[u8], out: &mut [u8], at: usize)
-    requires { ⌜ (length (now input) < 65536) × (at + (2 + length (now input)) ≤ length (now out)) ⌝ }
-    ensures { λ _. ⌜ now (out .exit) ≡ paste (now (out .entry)) at (recordOf (now (base .entry)) (now (input .entry))) (2 + length (now (input .entry))) ⌝ }
+    requires { ⌜ (length (now input) < lengthLimit) × (at + (2 + length (now input)) ≤ length (now out)) ⌝ }
+    ensures { λ _. ⌜ now (out .exit) ≡ paste (now (out .entry)) at
+        (recordOf (now (base .entry)) (now (input .entry))) (2 + length (now (input .entry))) ⌝ }
 {
     let n = input.len();
     out[at] = (n % 256) as u8;
@@ -234,6 +237,32 @@ fn record_from(packet: &[u8], at: usize) -> Record
     next_record(reader_at(packet, at))
 }
 
+// The bytes of the record at a place, without its length.
+fn body_at<'a>(packet: &'a [u8], at: usize, size: usize) -> &'a [u8]
+    requires { ⌜ at + (2 + size) ≤ length (now packet) ⌝ }
+    ensures { λ r. ⌜ now r ≡ take size (drop (at + 2) (now (packet .entry))) ⌝ }
+{
+    let from = at + 2;
+    let upto = from + size;
+    &packet[from..upto]
+}
+
+// The bytes of the record at the reader's place.
+fn body_of<'a>(r: Reader<'a>, size: usize) -> &'a [u8]
+    requires { ⌜ r .at + (2 + size) ≤ length (now (r .packet)) ⌝ }
+    ensures { λ b. ⌜ now b ≡ take size (drop (r .entry .at + 2) (now (r .entry .packet))) ⌝ }
+{
+    body_at(r.packet, r.at, size)
+}
+
+// The same, for whoever has the packet and the place in hand.
+fn body_from<'a>(packet: &'a [u8], at: usize, size: usize) -> &'a [u8]
+    requires { ⌜ at + (2 + size) ≤ length (now packet) ⌝ }
+    ensures { λ r. ⌜ now r ≡ take size (drop (at + 2) (now (packet .entry))) ⌝ }
+{
+    body_of(reader_at(packet, at), size)
+}
+
 // The number that a finding stands for.
 pub fn number_of(found: Record) -> u32
     ensures { λ r. ⌜ r ≡ numberOf found ⌝ }
@@ -298,8 +327,10 @@ fn unmask_run(
     from: usize,
     at: usize,
 )
-    requires { ⌜ (from ≤ at) × (both ≤ length (baseAt (now reference) (now out) inputs from at)) × (both ≤ length (now body)) × (at + both ≤ length (now out)) ⌝ }
-    ensures { λ _. ⌜ now (out .exit) ≡ paste (now (out .entry)) at (masked (baseAt (now (reference .entry)) (now (out .entry)) inputs from at) (now (body .entry))) both ⌝ }
+    requires { ⌜ (from ≤ at) × (both ≤ length (baseAt (now reference) (now out) inputs from at))
+        × (both ≤ length (now body)) × (at + both ≤ length (now out)) ⌝ }
+    ensures { λ _. ⌜ now (out .exit) ≡ paste (now (out .entry)) at
+        (masked (baseAt (now (reference .entry)) (now (out .entry)) inputs from at) (now (body .entry))) both ⌝ }
 {
     let mut i = 0;
     while i < both {
@@ -313,7 +344,8 @@ fn unmask_run(
 // One record's input from at on.
 fn unpack_one(reference: &[u8], body: &[u8], out: &mut [u8], inputs: usize, from: usize, at: usize)
     requires { ⌜ (from ≤ at) × (at + length (now body) ≤ length (now out)) ⌝ }
-    ensures { λ _. ⌜ now (out .exit) ≡ paste (now (out .entry)) at (masked (baseAt (now (reference .entry)) (now (out .entry)) inputs from at) (now (body .entry))) (length (now (body .entry))) ⌝ }
+    ensures { λ _. ⌜ now (out .exit) ≡ paste (now (out .entry)) at
+        (masked (baseAt (now (reference .entry)) (now (out .entry)) inputs from at) (now (body .entry))) (length (now (body .entry))) ⌝ }
 {
     let reach = base(reference, &out[..], inputs, from, at).len();
     let both = lesser(reach, body.len());
@@ -327,22 +359,27 @@ fn unpack_all(reference: &[u8], packet: &[u8], out: &mut [u8], lengths: &mut [u1
     requires { ⌜ (records (now packet) ≡ whole (inputsOf (records (now packet))))
         × (length (joined (inputsOf (records (now packet)))) ≤ length (now out))
         × (length (inputsOf (records (now packet))) ≤ length (now lengths)) ⌝ }
-    ensures { λ _. ⌜ (now (out .exit) ≡ over (joined (restored (now (reference .entry)) (inputsOf (records (now (packet .entry)))))) (now (out .entry)))
-        × (now (lengths .exit) ≡ over (lengthsOf (restored (now (reference .entry)) (inputsOf (records (now (packet .entry)))))) (now (lengths .entry))) ⌝ }
+    ensures { λ _. ⌜ (now (out .exit)
+        ≡ over (joined (restored (now (reference .entry)) (inputsOf (records (now (packet .entry)))))) (now (out .entry)))
+        × (now (lengths .exit)
+        ≡ over (lengthsOf (restored (now (reference .entry)) (inputsOf (records (now (packet .entry)))))) (now (lengths .entry))) ⌝ }
 {
     let mut at = 0;
     let mut k = 0;
     let mut from = 0;
     let mut done = 0;
-    while at < packet.len() {
-        let n = size_at(packet, at);
-        let start = at + 2;
-        let upto = start + n as usize;
-        unpack_one(reference, &packet[start..upto], out, k, from, done);
+    loop {
+        let found = record_from(packet, at);
+        let Record::Whole(n) = found else {
+            return;
+        };
+        let size = n as usize;
+        let body = body_from(packet, at, size);
+        unpack_one(reference, body, out, k, from, done);
         lengths[k] = n;
         from = done;
-        done += n as usize;
-        at = upto;
+        done += size;
+        at += 2 + size;
         k += 1;
     }
 }
@@ -355,9 +392,12 @@ pub fn delta_decode(
     out: &mut [u8],
     lengths: &mut [u16],
 ) -> Unpacked
-    ensures { λ r. ⌜ (r ≡ unpackAnswer (unpacked (now (reference .entry)) (now (packet .entry))) (length (now (out .entry))) (length (now (lengths .entry))))
-        × (now (out .exit) ≡ unpackOut (unpacked (now (reference .entry)) (now (packet .entry))) (now (out .entry)) (length (now (lengths .entry))))
-        × (now (lengths .exit) ≡ unpackLengths (unpacked (now (reference .entry)) (now (packet .entry))) (length (now (out .entry))) (now (lengths .entry))) ⌝ }
+    ensures { λ r. ⌜ (r
+        ≡ unpackAnswer (unpacked (now (reference .entry)) (now (packet .entry))) (length (now (out .entry))) (length (now (lengths .entry))))
+        × (now (out .exit)
+        ≡ unpackOut (unpacked (now (reference .entry)) (now (packet .entry))) (now (out .entry)) (length (now (lengths .entry))))
+        × (now (lengths .exit)
+        ≡ unpackLengths (unpacked (now (reference .entry)) (now (packet .entry))) (length (now (out .entry))) (now (lengths .entry))) ⌝ }
 {
     let seen = scan(packet);
     if seen.no != refusal::DONE {

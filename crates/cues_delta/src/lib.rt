@@ -9,6 +9,9 @@ ghost use mathlib.Core.Path.{_≡_};
 ghost use Prim.Native.Nat.{_+_, _*_, _≤_, _<_};
 ghost use lib.ListN.{length};
 
+// The first call of delta coding, by its number within the part.
+const PACK: u32 = 0;
+
 // What lent bytes and lengths hold before a call, so that what was not to be written is seen.
 const LENT_BYTE: u8 = 238;
 
@@ -34,10 +37,7 @@ fn fill_lengths(lengths: &mut [u16]) {
 fn at_most(number: u32, bound: u32) -> usize
     ensures { λ r. ⌜ r ≤ bound ⌝ }
 {
-    if bound < number {
-        return bound as usize;
-    }
-    number as usize
+    frame_info::lesser(number, bound) as usize
 }
 
 // The lengths after a line's first three fields.
@@ -150,25 +150,32 @@ fn pack_into<'a>(
     tell_packed(p.no, p.bytes, &lent[..], out, at)
 }
 
+// Lists that a call needs for a while. Each says its length alone, which is all that lending it asks.
+fn byte_buffer() -> [u8; 4096]
+    ensures { λ r. ⌜ 4096 ≡ length r ⌝ }
+{
+    [0u8; 4096]
+}
+
+fn length_buffer() -> [u16; 2048]
+    ensures { λ r. ⌜ 2048 ≡ length r ⌝ }
+{
+    [0u16; 2048]
+}
+
 // pack ROOM REFERENCE PENDING LEN..
-fn pack(
-    line: &[u8],
-    count: u32,
-    args: &[u64],
-    first: &mut [u8],
-    second: &mut [u8],
-    lengths: &mut [u16],
-    lent: &mut [u8],
-    out: &mut [u8],
-    at: usize,
-) -> usize
-    requires { ⌜ (2048 ≤ length (now args)) × (count < 2048) × (2048 ≤ length (now first)) × (2048 ≤ length (now second)) × (2045 ≤ length (now lengths)) × (4096 ≤ length (now lent)) × (at + 16384 ≤ length (now out)) ⌝ }
+fn pack(line: &[u8], count: u32, args: &[u64], out: &mut [u8], at: usize) -> usize
+    requires { ⌜ (2048 ≤ length (now args)) × (count < 2048) × (at + 16384 ≤ length (now out)) ⌝ }
     ensures { λ r. ⌜ r ≤ at + 16383 ⌝ }
 {
+    let mut first = byte_buffer();
+    let mut second = byte_buffer();
+    let mut lengths = length_buffer();
+    let mut lent = byte_buffer();
     let room = at_most(number_arg(args, 0), 4096);
     let few = lengths_in(count);
-    let n = field_bytes(line, 2, first);
-    let m = field_bytes(line, 3, second);
+    let n = field_bytes(line, 2, &mut first);
+    let m = field_bytes(line, 3, &mut second);
     pack_into(
         args,
         &first[..n],
@@ -223,23 +230,18 @@ fn unpack_into(
 }
 
 // unpack ROOM LENS REFERENCE PACKET
-fn unpack(
-    line: &[u8],
-    args: &[u64],
-    first: &mut [u8],
-    second: &mut [u8],
-    lengths: &mut [u16],
-    lent: &mut [u8],
-    out: &mut [u8],
-    at: usize,
-) -> usize
-    requires { ⌜ (2048 ≤ length (now args)) × (2048 ≤ length (now first)) × (2048 ≤ length (now second)) × (2045 ≤ length (now lengths)) × (4096 ≤ length (now lent)) × (at + 16384 ≤ length (now out)) ⌝ }
+fn unpack(line: &[u8], args: &[u64], out: &mut [u8], at: usize) -> usize
+    requires { ⌜ (2048 ≤ length (now args)) × (at + 16384 ≤ length (now out)) ⌝ }
     ensures { λ r. ⌜ r ≤ at + 16383 ⌝ }
 {
+    let mut first = byte_buffer();
+    let mut second = byte_buffer();
+    let mut lengths = length_buffer();
+    let mut lent = byte_buffer();
     let room = at_most(number_arg(args, 0), 4096);
     let few = at_most(number_arg(args, 1), 512);
-    let n = field_bytes(line, 3, first);
-    let m = field_bytes(line, 4, second);
+    let n = field_bytes(line, 3, &mut first);
+    let m = field_bytes(line, 4, &mut second);
     unpack_into(
         &first[..n],
         &second[..m],
@@ -250,24 +252,13 @@ fn unpack(
     )
 }
 
-// Either call, by its number.
-pub fn make(
-    call: u32,
-    line: &[u8],
-    count: u32,
-    args: &[u64],
-    first: &mut [u8],
-    second: &mut [u8],
-    lengths: &mut [u16],
-    lent: &mut [u8],
-    out: &mut [u8],
-    at: usize,
-) -> usize
-    requires { ⌜ (2048 ≤ length (now args)) × (count < 2048) × (2048 ≤ length (now first)) × (2048 ≤ length (now second)) × (2045 ≤ length (now lengths)) × (4096 ≤ length (now lent)) × (at + 16384 ≤ length (now out)) ⌝ }
+// Either call, by its number within the part.
+pub fn make(call: u32, line: &[u8], count: u32, args: &[u64], out: &mut [u8], at: usize) -> usize
+    requires { ⌜ (2048 ≤ length (now args)) × (count < 2048) × (at + 16384 ≤ length (now out)) ⌝ }
     ensures { λ r. ⌜ r ≤ at + 16383 ⌝ }
 {
-    if call == sheet::calls::PACK {
-        return pack(line, count, args, first, second, lengths, lent, out, at);
+    if call == PACK {
+        return pack(line, count, args, out, at);
     }
-    unpack(line, args, first, second, lengths, lent, out, at)
+    unpack(line, args, out, at)
 }

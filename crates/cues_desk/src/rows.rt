@@ -5,19 +5,15 @@ use cues_text::put_number_value;
 use cues_text::put_served_value;
 use cues_text::put_state_value;
 use cues_text::put_word_value;
-use desk::Advanced;
 use desk::Report;
-use desk::Shown;
-ghost use mathlib.Core.Path.{_≡_};
+use desk_value::AdvancedDesk;
+use desk_value::ShownDesk;
+use frame_info::input_status::CONFIRMED;
+use frame_info::input_status::InputStatus;
+use sync_layer::MAX_SEATS;
 ghost use Prim.Native.Nat.{_+_, _*_, _≤_};
 ghost use lib.ListN.{length};
-
-// Room for one number of every seat. It says its length alone, which is all that lending it asks.
-pub fn row() -> [u32; 8]
-    ensures { λ r. ⌜ 8 ≡ length r ⌝ }
-{
-    [0u32; 8]
-}
+ghost use Rattle.sync_layer.specs.Seats.{maxSeats};
 
 // The lowest mismatch, and how many frames were replayed.
 pub fn put_report(out: &mut [u8], at: usize, report: Report) -> usize
@@ -29,8 +25,8 @@ pub fn put_report(out: &mut [u8], at: usize, report: Report) -> usize
 }
 
 // Each seat's word.
-fn put_words(out: &mut [u8], at: usize, words: &[u32], n: usize) -> usize
-    requires { ⌜ (n ≤ 4) × (n ≤ length (now words)) × (at + 9 * n ≤ length (now out)) ⌝ }
+fn put_words(out: &mut [u8], at: usize, words: &[u32; MAX_SEATS], n: usize) -> usize
+    requires { ⌜ (n ≤ maxSeats) × (at + 9 * n ≤ length (now out)) ⌝ }
     ensures { λ r. ⌜ r ≤ at + 9 * n ⌝ }
 {
     let mut next = at;
@@ -42,49 +38,53 @@ fn put_words(out: &mut [u8], at: usize, words: &[u32], n: usize) -> usize
     next
 }
 
-// Each seat's word and its standing, 0 for confirmed.
-fn put_served(out: &mut [u8], at: usize, words: &[u32], standings: &[u32], n: usize) -> usize
-    requires { ⌜ (n ≤ 4) × (n ≤ length (now words)) × (n ≤ length (now standings)) × (at + 11 * n ≤ length (now out)) ⌝ }
+// Each seat's word and whether it is confirmed.
+fn put_served(
+    out: &mut [u8],
+    at: usize,
+    words: &[u32; MAX_SEATS],
+    statuses: &[InputStatus; MAX_SEATS],
+    n: usize,
+) -> usize
+    requires { ⌜ (n ≤ maxSeats) × (at + 11 * n ≤ length (now out)) ⌝ }
     ensures { λ r. ⌜ r ≤ at + 11 * n ⌝ }
 {
     let mut next = at;
     let mut i: usize = 0;
     while i < n {
-        next = put_served_value(out, next, words[i], standings[i] == 0);
+        next = put_served_value(out, next, words[i], statuses[i] == CONFIRMED);
         i += 1;
     }
     next
 }
 
-// A frame that was served: what was corrected before it, and each seat's word and standing.
-pub fn tell_served(
-    out: &mut [u8],
-    at: usize,
-    advanced: Advanced,
-    words: &[u32],
-    standings: &[u32],
-    n: usize,
-) -> usize
-    requires { ⌜ (n ≤ 4) × (n ≤ length (now words)) × (n ≤ length (now standings)) × (at + 77 ≤ length (now out)) ⌝ }
+// A frame that was served: what was corrected before it, and each seat's word and status.
+pub fn tell_served(out: &mut [u8], at: usize, a: AdvancedDesk, n: usize) -> usize
+    requires { ⌜ (n ≤ maxSeats) × (at + 77 ≤ length (now out)) ⌝ }
     ensures { λ r. ⌜ r ≤ at + 77 ⌝ }
 {
-    let end = put_number(out, at, advanced.no);
-    if advanced.no != 0 {
+    let end = put_number(out, at, a.no);
+    if a.no != 0 {
         return end;
     }
-    let next = put_report(out, end, advanced.report);
-    put_served(out, next, words, standings, n)
+    let report = a.report;
+    let served = a.served;
+    let statuses = a.statuses;
+    let next = put_report(out, end, report);
+    put_served(out, next, &served, &statuses, n)
 }
 
 // A frame that is shown: each seat's word, and the console after it.
-pub fn tell_shown(out: &mut [u8], at: usize, shown: Shown, words: &[u32], n: usize) -> usize
-    requires { ⌜ (n ≤ 4) × (n ≤ length (now words)) × (at + 73 ≤ length (now out)) ⌝ }
+pub fn tell_shown(out: &mut [u8], at: usize, shown: ShownDesk, n: usize) -> usize
+    requires { ⌜ (n ≤ maxSeats) × (at + 73 ≤ length (now out)) ⌝ }
     ensures { λ r. ⌜ r ≤ at + 73 ⌝ }
 {
     let end = put_number(out, at, shown.no);
     if shown.no != 0 {
         return end;
     }
-    let next = put_words(out, end, words, n);
-    put_state_value(out, next, shown.console)
+    let words = shown.words;
+    let console = shown.console;
+    let next = put_words(out, end, &words, n);
+    put_state_value(out, next, console)
 }

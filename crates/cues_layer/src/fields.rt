@@ -4,6 +4,25 @@ ghost use mathlib.Core.Path.{_≡_};
 ghost use Prim.Native.Nat.{_+_, _-_, _≤_};
 ghost use lib.ListN.{length};
 
+// Lists for as many fields as a line can have. Each says its length alone, which is all that lending it asks.
+pub fn number_buffer() -> [u32; 2048]
+    ensures { λ r. ⌜ 2048 ≡ length r ⌝ }
+{
+    [0u32; 2048]
+}
+
+pub fn flag_buffer() -> [bool; 2048]
+    ensures { λ r. ⌜ 2048 ≡ length r ⌝ }
+{
+    [false; 2048]
+}
+
+pub fn frame_buffer() -> [i32; 2048]
+    ensures { λ r. ⌜ 2048 ≡ length r ⌝ }
+{
+    [0i32; 2048]
+}
+
 // How many fields follow the first few.
 pub fn fields_after(count: u32, first: u32) -> usize
     ensures { λ r. ⌜ r ≡ count - first ⌝ }
@@ -38,7 +57,7 @@ pub fn take_statuses(args: &[u64], from: usize, n: usize, gone: &mut [bool], las
     while i < n {
         let status = args[from + i];
         gone[i] = is_gone(status);
-        lasts[i] = digits::signed_of(low(status));
+        lasts[i] = frame_info::signed_of(low(status));
         i += 1;
     }
 }

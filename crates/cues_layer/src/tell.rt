@@ -5,8 +5,13 @@ use cues_text::put_letter_value;
 use cues_text::put_number;
 use cues_text::put_state_value;
 use cues_text::put_word_value;
+use frame_info::input_status::CONFIRMED;
+use frame_info::input_status::InputStatus;
+use frame_info::input_status::PREDICTED;
+use sync_layer::MAX_SEATS;
 ghost use Prim.Native.Nat.{_+_, _*_, _≤_};
 ghost use lib.ListN.{length};
+ghost use Rattle.sync_layer.specs.Seats.{maxSeats};
 
 pub fn tell_state(out: &mut [u8], at: usize, number: u32, state: Console) -> usize
     requires { ⌜ at + 192 ≤ length (now out) ⌝ }
@@ -29,34 +34,39 @@ pub fn tell_frames(out: &mut [u8], at: usize, current: i32, saved: i32, confirme
     put_frame_value(out, third, confirmed)
 }
 
-// 0 confirmed, 1 predicted, 2 gone.
-fn letter_of(standing: u32) -> u8 {
-    if standing == 0 {
+fn letter_of(status: InputStatus) -> u8 {
+    if status == CONFIRMED {
         b'c'
-    } else if standing == 1 {
+    } else if status == PREDICTED {
         b'p'
     } else {
         b'g'
     }
 }
 
-fn put_served(out: &mut [u8], at: usize, word: u32, standing: u32) -> usize
+fn put_served(out: &mut [u8], at: usize, word: u32, status: InputStatus) -> usize
     requires { ⌜ at + 11 ≤ length (now out) ⌝ }
     ensures { λ r. ⌜ r ≤ at + 11 ⌝ }
 {
     let next = put_word_value(out, at, word);
-    put_letter_value(out, next, letter_of(standing))
+    put_letter_value(out, next, letter_of(status))
 }
 
-// Every seat's word and standing.
-fn put_all_served(out: &mut [u8], at: usize, words: &[u32], standings: &[u32], n: usize) -> usize
-    requires { ⌜ (n ≤ 8) × (n ≤ length (now words)) × (n ≤ length (now standings)) × (at + 11 * n ≤ length (now out)) ⌝ }
+// Every seat's word and status.
+fn put_all_served(
+    out: &mut [u8],
+    at: usize,
+    words: &[u32; MAX_SEATS],
+    statuses: &[u32; MAX_SEATS],
+    n: usize,
+) -> usize
+    requires { ⌜ (n ≤ maxSeats) × (at + 11 * n ≤ length (now out)) ⌝ }
     ensures { λ r. ⌜ r ≤ at + 11 * n ⌝ }
 {
     let mut end = at;
     let mut i: usize = 0;
     while i < n {
-        end = put_served(out, end, words[i], standings[i]);
+        end = put_served(out, end, words[i], statuses[i]);
         i += 1;
     }
     end
@@ -66,18 +76,18 @@ pub fn tell_served(
     out: &mut [u8],
     at: usize,
     number: u32,
-    words: &[u32],
-    standings: &[u32],
+    words: &[u32; MAX_SEATS],
+    statuses: &[u32; MAX_SEATS],
     n: usize,
 ) -> usize
-    requires { ⌜ (n ≤ 8) × (n ≤ length (now words)) × (n ≤ length (now standings)) × (at + 192 ≤ length (now out)) ⌝ }
+    requires { ⌜ (n ≤ maxSeats) × (at + 192 ≤ length (now out)) ⌝ }
     ensures { λ r. ⌜ r ≤ at + 191 ⌝ }
 {
     let end = put_number(out, at, number);
     if number != 0 {
         return end;
     }
-    put_all_served(out, end, words, standings, n)
+    put_all_served(out, end, words, statuses, n)
 }
 
 fn put_found(out: &mut [u8], at: usize, frame: i32, word: u32) -> usize
@@ -89,8 +99,14 @@ fn put_found(out: &mut [u8], at: usize, frame: i32, word: u32) -> usize
 }
 
 // Every seat's frame and word.
-fn put_all_found(out: &mut [u8], at: usize, frames: &[i32], words: &[u32], n: usize) -> usize
-    requires { ⌜ (n ≤ 8) × (n ≤ length (now frames)) × (n ≤ length (now words)) × (at + 21 * n ≤ length (now out)) ⌝ }
+fn put_all_found(
+    out: &mut [u8],
+    at: usize,
+    frames: &[i32; MAX_SEATS],
+    words: &[u32; MAX_SEATS],
+    n: usize,
+) -> usize
+    requires { ⌜ (n ≤ maxSeats) × (at + 21 * n ≤ length (now out)) ⌝ }
     ensures { λ r. ⌜ r ≤ at + 21 * n ⌝ }
 {
     let mut end = at;
@@ -106,11 +122,11 @@ pub fn tell_found(
     out: &mut [u8],
     at: usize,
     number: u32,
-    frames: &[i32],
-    words: &[u32],
+    frames: &[i32; MAX_SEATS],
+    words: &[u32; MAX_SEATS],
     n: usize,
 ) -> usize
-    requires { ⌜ (n ≤ 8) × (n ≤ length (now frames)) × (n ≤ length (now words)) × (at + 192 ≤ length (now out)) ⌝ }
+    requires { ⌜ (n ≤ maxSeats) × (at + 192 ≤ length (now out)) ⌝ }
     ensures { λ r. ⌜ r ≤ at + 191 ⌝ }
 {
     let end = put_number(out, at, number);

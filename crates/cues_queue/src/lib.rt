@@ -1,212 +1,175 @@
-// The queue in force, and its calls: each makes its call on the library and tells its answer.
-use cues_text::low;
+// The calls of the queue in force, by value: each makes its call and tells its answer.
+use cues_text::frame_arg;
+use cues_text::number_arg;
 use cues_text::tell_fills;
 use cues_text::tell_frame;
 use cues_text::tell_number;
 use cues_text::tell_served;
 use cues_text::tell_word;
 use frame_info::PlayerInput;
-use input_queue::QueueState;
+use input_queue_value::InputQueue;
 ghost use mathlib.Core.Path.{_≡_};
 ghost use Prim.Native.Nat.{_+_, _≤_};
 ghost use lib.ListN.{length};
 ghost use lib.Seq.{sets};
-ghost use Rattle.cues_queue.specs.Queue as queue;
-ghost use Rattle.input_queue.specs.Whole.{Whole};
+ghost use Rattle.input_queue_value.specs.Value.{Whole};
+ghost use Rattle.cues_queue.specs.Queue as tells;
 
-pub struct Held {
-    pub predictor: u32,
-    pub state: QueueState,
-}
+// The queue's calls, by their numbers within the part.
+const OPEN: u32 = 0;
+
+const ADD: u32 = 1;
+
+const REQUEST: u32 = 2;
+
+const CONFIRMED: u32 = 3;
+
+const DISCARD: u32 = 4;
+
+const RESET: u32 = 5;
+
+const DELAY: u32 = 6;
 
 // What a call leaves: the queue, and where its answer ends.
 pub struct Told {
-    pub held: Held,
+    pub queue: InputQueue,
     pub at: usize,
 }
 
 fn open(args: &[u64], out: &mut [u8], at: usize) -> Told
     requires { ⌜ (2048 ≤ length (now args)) × (at + 64 ≤ length (now out)) ⌝ }
-    ensures { λ r. ⌜ (r .held ≡ queue.opened (now (args .entry))) × (r .at ≡ at + length (queue.openedText (now (args .entry))))
-        × (now (out .exit) ≡ sets (now (out .entry)) at (queue.openedText (now (args .entry)))) × (r .at ≤ at + 63) ⌝ }
+    ensures { λ r. ⌜ (r .queue ≡ tells.opened (now (args .entry))) × (r .at ≡ at + length (tells.openedText (now (args .entry))))
+        × (now (out .exit) ≡ sets (now (out .entry)) at (tells.openedText (now (args .entry)))) × (r .at ≤ at + 63) ⌝ }
 {
-    let o = input_queue::new(low(args[0]), low(args[1]));
-    let state = o.state;
+    let o = InputQueue::new(number_arg(args, 0), number_arg(args, 1));
     let end = tell_number(out, at, o.no);
+    let next = o.queue;
     Told {
-        held: Held {
-            predictor: o.predictor,
-            state,
-        },
+        queue: next,
         at: end,
     }
 }
 
-fn add(args: &[u64], words: &mut [u32], held: Held, out: &mut [u8], at: usize) -> Told
-    requires { ⌜ (2048 ≤ length (now args)) × (at + 64 ≤ length (now out)) × Whole (now words) 0 (held .state) ⌝ }
-    ensures { λ r. ⌜ (r .held ≡ queue.added (now (args .entry)) (now (words .entry)) held)
-        × (now (words .exit) ≡ queue.addedWords (now (args .entry)) (now (words .entry)) held)
-        × (r .at ≡ at + length (queue.addedText (now (args .entry)) (now (words .entry)) held))
-        × (now (out .exit) ≡ sets (now (out .entry)) at (queue.addedText (now (args .entry)) (now (words .entry)) held)) × (r .at ≤ at + 63) ⌝ }
+fn add(args: &[u64], queue: InputQueue, out: &mut [u8], at: usize) -> Told
+    requires { ⌜ (2048 ≤ length (now args)) × (at + 64 ≤ length (now out)) × Whole queue ⌝ }
+    ensures { λ r. ⌜ (r .queue ≡ tells.added (now (args .entry)) queue)
+        × (r .at ≡ at + length (tells.addedText (now (args .entry)) queue))
+        × (now (out .exit) ≡ sets (now (out .entry)) at (tells.addedText (now (args .entry)) queue)) × (r .at ≤ at + 63) ⌝ }
 {
-    let input = PlayerInput::new(digits::signed_of(low(args[0])), low(args[1]));
-    let s = held.state;
-    let a = input_queue::add_input(words, 0, s, input);
-    let state = a.state;
+    let a = queue.add_input(PlayerInput::new(frame_arg(args, 0), number_arg(args, 1)));
     let end = tell_frame(out, at, a.no, a.place);
+    let next = a.queue;
     Told {
-        held: Held {
-            predictor: held.predictor,
-            state,
-        },
+        queue: next,
         at: end,
     }
 }
 
-fn request(args: &[u64], words: &[u32], held: Held, out: &mut [u8], at: usize) -> Told
-    requires { ⌜ (2048 ≤ length (now args)) × (at + 64 ≤ length (now out)) × Whole (now words) 0 (held .state) ⌝ }
-    ensures { λ r. ⌜ (r .held ≡ queue.requested (now (args .entry)) (now (words .entry)) held)
-        × (r .at ≡ at + length (queue.requestedText (now (args .entry)) (now (words .entry)) held))
-        × (now (out .exit) ≡ sets (now (out .entry)) at (queue.requestedText (now (args .entry)) (now (words .entry)) held)) × (r .at ≤ at + 63) ⌝ }
+fn request(args: &[u64], queue: InputQueue, out: &mut [u8], at: usize) -> Told
+    requires { ⌜ (2048 ≤ length (now args)) × (at + 64 ≤ length (now out)) × Whole queue ⌝ }
+    ensures { λ r. ⌜ (r .queue ≡ tells.requested (now (args .entry)) queue)
+        × (r .at ≡ at + length (tells.requestedText (now (args .entry)) queue))
+        × (now (out .exit) ≡ sets (now (out .entry)) at (tells.requestedText (now (args .entry)) queue)) × (r .at ≤ at + 63) ⌝ }
 {
-    let frame = digits::signed_of(low(args[0]));
-    let s = held.state;
-    let a = input_queue::input(words, 0, s, held.predictor, frame);
-    let state = a.state;
+    let a = queue.input(frame_arg(args, 0));
     let end = tell_served(out, at, a.no, a.word, a.confirmed);
+    let next = a.queue;
     Told {
-        held: Held {
-            predictor: held.predictor,
-            state,
-        },
+        queue: next,
         at: end,
     }
 }
 
-// The queue stays as it is.
-fn confirmed(args: &[u64], words: &[u32], held: Held, out: &mut [u8], at: usize) -> usize
-    requires { ⌜ (2048 ≤ length (now args)) × (at + 64 ≤ length (now out)) × Whole (now words) 0 (held .state) ⌝ }
-    ensures { λ r. ⌜ (r ≡ at + length (queue.confirmedText (now (args .entry)) (now (words .entry)) held))
-        × (now (out .exit) ≡ sets (now (out .entry)) at (queue.confirmedText (now (args .entry)) (now (words .entry)) held)) × (r ≤ at + 63) ⌝ }
+fn confirmed(args: &[u64], queue: InputQueue, out: &mut [u8], at: usize) -> Told
+    requires { ⌜ (2048 ≤ length (now args)) × (at + 64 ≤ length (now out)) × Whole queue ⌝ }
+    ensures { λ r. ⌜ (r .queue ≡ queue) × (r .at ≡ at + length (tells.confirmedText (now (args .entry)) queue))
+        × (now (out .exit) ≡ sets (now (out .entry)) at (tells.confirmedText (now (args .entry)) queue)) × (r .at ≤ at + 63) ⌝ }
 {
-    let frame = digits::signed_of(low(args[0]));
-    let s = held.state;
-    let a = input_queue::confirmed_input(words, 0, s, frame);
+    let a = queue.confirmed_input(frame_arg(args, 0));
     let input = a.input;
-    tell_word(out, at, a.no, input.input)
+    let end = tell_word(out, at, a.no, input.input);
+    Told { queue, at: end }
 }
 
-fn discard(args: &[u64], held: Held, out: &mut [u8], at: usize) -> Told
+fn discard(args: &[u64], queue: InputQueue, out: &mut [u8], at: usize) -> Told
     requires { ⌜ (2048 ≤ length (now args)) × (at + 64 ≤ length (now out)) ⌝ }
-    ensures { λ r. ⌜ (r .held ≡ queue.discarded (now (args .entry)) held)
-        × (r .at ≡ at + length (queue.discardedText (now (args .entry)) held))
-        × (now (out .exit) ≡ sets (now (out .entry)) at (queue.discardedText (now (args .entry)) held)) × (r .at ≤ at + 63) ⌝ }
+    ensures { λ r. ⌜ (r .queue ≡ tells.discarded (now (args .entry)) queue)
+        × (r .at ≡ at + length (tells.discardedText (now (args .entry)) queue))
+        × (now (out .exit) ≡ sets (now (out .entry)) at (tells.discardedText (now (args .entry)) queue)) × (r .at ≤ at + 63) ⌝ }
 {
-    let frame = digits::signed_of(low(args[0]));
-    let s = held.state;
-    let a = input_queue::discard_confirmed_frames(s, frame);
-    let state = a.state;
+    let a = queue.discard_confirmed_frames(frame_arg(args, 0));
     let end = tell_number(out, at, a.no);
+    let next = a.queue;
     Told {
-        held: Held {
-            predictor: held.predictor,
-            state,
-        },
+        queue: next,
         at: end,
     }
 }
 
-fn reset(held: Held, out: &mut [u8], at: usize) -> Told
+fn reset(queue: InputQueue, out: &mut [u8], at: usize) -> Told
     requires { ⌜ at + 64 ≤ length (now out) ⌝ }
-    ensures { λ r. ⌜ (r .held ≡ queue.cleared held) × (r .at ≡ at + length (queue.clearedText))
-        × (now (out .exit) ≡ sets (now (out .entry)) at (queue.clearedText)) × (r .at ≤ at + 63) ⌝ }
+    ensures { λ r. ⌜ (r .queue ≡ tells.cleared queue) × (r .at ≡ at + length (tells.clearedText))
+        × (now (out .exit) ≡ sets (now (out .entry)) at (tells.clearedText)) × (r .at ≤ at + 63) ⌝ }
 {
-    let s = held.state;
-    let state = input_queue::reset_prediction(s);
+    let next = queue.reset_prediction();
     let end = tell_number(out, at, 0);
     Told {
-        held: Held {
-            predictor: held.predictor,
-            state,
-        },
+        queue: next,
         at: end,
     }
 }
 
-fn delay(args: &[u64], words: &[u32], held: Held, out: &mut [u8], at: usize) -> Told
-    requires { ⌜ (2048 ≤ length (now args)) × (at + 64 ≤ length (now out)) × Whole (now words) 0 (held .state) ⌝ }
-    ensures { λ r. ⌜ (r .held ≡ queue.delayed (now (args .entry)) (now (words .entry)) held)
-        × (r .at ≡ at + length (queue.delayedText (now (args .entry)) (now (words .entry)) held))
-        × (now (out .exit) ≡ sets (now (out .entry)) at (queue.delayedText (now (args .entry)) (now (words .entry)) held)) × (r .at ≤ at + 63) ⌝ }
+fn delay(args: &[u64], queue: InputQueue, out: &mut [u8], at: usize) -> Told
+    requires { ⌜ (2048 ≤ length (now args)) × (at + 64 ≤ length (now out)) × Whole queue ⌝ }
+    ensures { λ r. ⌜ (r .queue ≡ tells.delayed (now (args .entry)) queue)
+        × (r .at ≡ at + length (tells.delayedText (now (args .entry)) queue))
+        × (now (out .exit) ≡ sets (now (out .entry)) at (tells.delayedText (now (args .entry)) queue)) × (r .at ≤ at + 63) ⌝ }
 {
-    let s = held.state;
-    let a = input_queue::set_frame_delay(words, 0, s, low(args[0]));
-    let state = a.state;
+    let a = queue.set_frame_delay(number_arg(args, 0));
     let end = tell_fills(out, at, a.no, a.first, a.count, a.word);
+    let next = a.queue;
     Told {
-        held: Held {
-            predictor: held.predictor,
-            state,
-        },
+        queue: next,
         at: end,
     }
 }
 
-// The queue stays as it is.
-fn wrong(held: Held, out: &mut [u8], at: usize) -> usize
+fn wrong(queue: InputQueue, out: &mut [u8], at: usize) -> Told
     requires { ⌜ at + 64 ≤ length (now out) ⌝ }
-    ensures { λ r. ⌜ (r ≡ at + length (queue.wrongText held))
-        × (now (out .exit) ≡ sets (now (out .entry)) at (queue.wrongText held)) × (r ≤ at + 63) ⌝ }
+    ensures { λ r. ⌜ (r .queue ≡ queue) × (r .at ≡ at + length (tells.wrongText queue))
+        × (now (out .exit) ≡ sets (now (out .entry)) at (tells.wrongText queue)) × (r .at ≤ at + 63) ⌝ }
 {
-    let s = held.state;
-    tell_frame(out, at, 0, input_queue::first_incorrect_frame(s))
+    let end = tell_frame(out, at, 0, queue.first_incorrect_frame());
+    Told { queue, at: end }
 }
 
-// Any call of the queue, by its number.
-pub fn make(
-    call: u32,
-    args: &[u64],
-    words: &mut [u32],
-    held: Held,
-    out: &mut [u8],
-    at: usize,
-) -> Told
-    requires { ⌜ (2048 ≤ length (now args)) × (at + 64 ≤ length (now out)) × Whole (now words) 0 (held .state) ⌝ }
-    ensures { λ r. ⌜ (r .held ≡ queue.heldAfter call (now (args .entry)) (now (words .entry)) held)
-        × (now (words .exit) ≡ queue.wordsAfter call (now (args .entry)) (now (words .entry)) held)
-        × (r .at ≡ at + length (queue.textAfter call (now (args .entry)) (now (words .entry)) held))
-        × (now (out .exit) ≡ sets (now (out .entry)) at (queue.textAfter call (now (args .entry)) (now (words .entry)) held)) × (r .at ≤ at + 63) ⌝ }
+// Any call of the queue, by its number within the part.
+pub fn make(call: u32, args: &[u64], queue: InputQueue, out: &mut [u8], at: usize) -> Told
+    requires { ⌜ (2048 ≤ length (now args)) × (at + 64 ≤ length (now out)) × Whole queue ⌝ }
+    ensures { λ r. ⌜ (r .queue ≡ tells.queueAfter call (now (args .entry)) queue)
+        × (r .at ≡ at + length (tells.textAfter call (now (args .entry)) queue))
+        × (now (out .exit) ≡ sets (now (out .entry)) at (tells.textAfter call (now (args .entry)) queue)) × (r .at ≤ at + 63) ⌝ }
 {
-    if call == sheet::calls::QUEUE {
+    if call == OPEN {
         return open(args, out, at);
     }
-    if call == sheet::calls::Q_ADD {
-        return add(args, words, held, out, at);
+    if call == ADD {
+        return add(args, queue, out, at);
     }
-    if call == sheet::calls::Q_REQUEST {
-        return request(args, &words[..], held, out, at);
+    if call == REQUEST {
+        return request(args, queue, out, at);
     }
-    if call == sheet::calls::Q_DISCARD {
-        return discard(args, held, out, at);
+    if call == CONFIRMED {
+        return confirmed(args, queue, out, at);
     }
-    if call == sheet::calls::Q_RESET {
-        return reset(held, out, at);
+    if call == DISCARD {
+        return discard(args, queue, out, at);
     }
-    if call == sheet::calls::Q_DELAY {
-        return delay(args, &words[..], held, out, at);
+    if call == RESET {
+        return reset(queue, out, at);
     }
-    let end = look(call, args, &words[..], held, out, at);
-    Told { held, at: end }
-}
-
-// The calls that only look: the queue stays as it is.
-fn look(call: u32, args: &[u64], words: &[u32], held: Held, out: &mut [u8], at: usize) -> usize
-    requires { ⌜ (2048 ≤ length (now args)) × (at + 64 ≤ length (now out)) × Whole (now words) 0 (held .state) ⌝ }
-    ensures { λ r. ⌜ (r ≡ at + length (queue.lookText call (now (args .entry)) (now (words .entry)) held))
-        × (now (out .exit) ≡ sets (now (out .entry)) at (queue.lookText call (now (args .entry)) (now (words .entry)) held)) × (r ≤ at + 63) ⌝ }
-{
-    if call == sheet::calls::Q_CONFIRMED {
-        return confirmed(args, words, held, out, at);
+    if call == DELAY {
+        return delay(args, queue, out, at);
     }
-    wrong(held, out, at)
+    wrong(queue, out, at)
 }

@@ -65,15 +65,15 @@ pub ruleset plain = (local-plain, remote-plain, over-plain, under-plain)
 -- ---- which windows a call leaves
 
 module _ (call : ℕ) (a : List ℕ) (t : TimeSync) where
-  pub after-opened : (r : TimeSync) → call ≡ 23 → r ≡ fresh → r ≡ after call a t
+  pub after-opened : (r : TimeSync) → call ≡ 0 → r ≡ fresh → r ≡ after call a t
   unfolding after
   after-opened r c e = simp (eq-eqb _ _ c) e
 
-  pub after-advanced : (r : TimeSync) → (call ≡ 23 → ⊥) → call ≡ 24 → r ≡ advancedBy a t → r ≡ after call a t
+  pub after-advanced : (r : TimeSync) → (call ≡ 0 → ⊥) → call ≡ 1 → r ≡ advancedBy a t → r ≡ after call a t
   unfolding after
   after-advanced r n c e = simp (ne-eqb _ _ n, eq-eqb _ _ c) e
 
-  pub after-look : (call ≡ 23 → ⊥) → (call ≡ 24 → ⊥) → t ≡ after call a t
+  pub after-look : (call ≡ 0 → ⊥) → (call ≡ 1 → ⊥) → t ≡ after call a t
   unfolding after
   after-look n m = simp (ne-eqb _ _ n, ne-eqb _ _ m)
 

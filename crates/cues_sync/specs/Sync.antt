@@ -13,4 +13,4 @@ advancedBy a t = advanced t (frameArg a 0) (frameArg a 1) (frameArg a 2) .sync
 
 -- a fresh pair of windows, one slot of each written, or as they were: the other calls only look
 unfoldable pub after : ℕ → List ℕ → TimeSync → TimeSync
-after call a t = pick (eqb call 23) fresh (pick (eqb call 24) (advancedBy a t) t)
+after call a t = pick (eqb call 0) fresh (pick (eqb call 1) (advancedBy a t) t)

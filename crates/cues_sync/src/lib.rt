@@ -13,6 +13,15 @@ ghost use lib.ListN.{length};
 ghost use Rattle.time_sync.specs.Windows.{fresh};
 ghost use Rattle.cues_sync.specs.Sync as windows;
 
+// The calls of time sync, by their numbers within the part.
+const OPEN: u32 = 0;
+
+const ADVANCE: u32 = 1;
+
+const AVERAGE: u32 = 2;
+
+const AVERAGES: u32 = 3;
+
 // What a call leaves: the windows, and where its answer ends.
 pub struct Told {
     pub sync: TimeSync,
@@ -85,24 +94,24 @@ fn look(call: u32, sync: TimeSync, out: &mut [u8], at: usize) -> usize
     requires { ⌜ at + 64 ≤ length (now out) ⌝ }
     ensures { λ r. ⌜ r ≤ at + 63 ⌝ }
 {
-    if call == sheet::calls::S_AVERAGE {
+    if call == AVERAGE {
         return average(sync, out, at);
     }
-    if call == sheet::calls::S_AVERAGES {
+    if call == AVERAGES {
         return averages(sync, out, at);
     }
     reading(sync, out, at)
 }
 
-// Any call of time sync, by its number.
+// Any call of time sync, by its number within the part.
 pub fn make(call: u32, args: &[u64], sync: TimeSync, out: &mut [u8], at: usize) -> Told
     requires { ⌜ (2048 ≤ length (now args)) × (at + 64 ≤ length (now out)) ⌝ }
     ensures { λ r. ⌜ (r .sync ≡ windows.after call (now (args .entry)) sync) × (r .at ≤ at + 63) ⌝ }
 {
-    if call == sheet::calls::SYNC {
+    if call == OPEN {
         return open(out, at);
     }
-    if call == sheet::calls::S_ADVANCE {
+    if call == ADVANCE {
         return advance(args, sync, out, at);
     }
     let end = look(call, sync, out, at);

@@ -33,7 +33,7 @@ pub fn frame_arg(args: &[u64], field: usize) -> i32
     requires { ⌜ field < length (now args) ⌝ }
     ensures { λ r. ⌜ r ≡ frameArg (now (args .entry)) field ⌝ }
 {
-    digits::signed_of(low(args[field]))
+    frame_info::signed_of(low(args[field]))
 }
 
 // A number, with how far it reaches at most.

@@ -39,12 +39,12 @@ module _ (limit p : ℕ) (delays l m : List ℕ) (o : layers.Opened) (e : o ≡ 
   unfolding calls.setupAnswer layer.opened
   setup-number = ap (λ (x : layers.Opened). x .no) e ∙ ⊎-elim (λ (a : layer.fits limit p delays ≡ true). simp a) (λ (a : layer.fits limit p delays ≡ false). simp a) (split-bool (layer.fits limit p delays))
 
-  fresh-state : record { seats = o .layer .seats; limit = o .layer .limit; predictor = o .layer .predictor; current = 0; console = start } ≡ setupState limit p delays
+  fresh-state : record { seats = o .layer .«num_players»; limit = o .layer .«max_prediction»; predictor = o .layer .predictor; current = 0; console = start } ≡ setupState limit p delays
   unfolding setupState layer.opened
   fresh-state = rw e (⊎-elim (λ (a : layer.fits limit p delays ≡ true). simp a) (λ (a : layer.fits limit p delays ≡ false). simp a) (split-bool (layer.fits limit p delays)))
 
   pub setup-desk : (k : Console) (l′ m′ : List ℕ) → k ≡ start → l′ ≡ layer.openedSeats limit p delays l → m′ ≡ layer.openedSlots limit p delays m
-      → deskOf (record { seats = o .layer .seats; limit = o .layer .limit; predictor = o .layer .predictor; current = 0; console = k }) l′ [] m′
+      → deskOf (record { seats = o .layer .«num_players»; limit = o .layer .«max_prediction»; predictor = o .layer .predictor; current = 0; console = k }) l′ [] m′
       ≡ setupOf (setupWith limit p delays l [] m)
   unfolding setupOf
   setup-desk k l′ m′ a b d = rw (a, b, d) (ap (λ (y : DeskState). deskOf y (layer.openedSeats limit p delays l) [] (layer.openedSlots limit p delays m)) fresh-state)
@@ -68,24 +68,24 @@ module _ (y : DeskState) (l : List ℕ) (s n : ℕ) where
       take-high c = simp (lt-leb _ _ a, ne-eqb _ _ b, lt-ltb _ _ c)
 
       module _ (c : n ≤ lastCount) (q : QueueState) (e : q ≡ seatAt l s) where
-        pub take-turn : (n - 1 ≡ q .user → ⊥) → 3 ≡ takeAnswer (deskOf y l [] []) s n
+        pub take-turn : (n - 1 ≡ q .«last_user_count» → ⊥) → 3 ≡ takeAnswer (deskOf y l [] []) s n
         unfolding takeAnswer
-        take-turn d = let d′ : n - 1 ≡ seatAt l s .user → ⊥ = rw e at d in simp (lt-leb _ _ a, ne-eqb _ _ b, le-ltb _ _ c, ne-eqb _ _ d′)
+        take-turn d = let d′ : n - 1 ≡ seatAt l s .«last_user_count» → ⊥ = rw e at d in simp (lt-leb _ _ a, ne-eqb _ _ b, le-ltb _ _ c, ne-eqb _ _ d′)
 
-        in-turn : n - 1 ≡ q .user → queue.addRefusal q n ≡ pick (queue.overfull q n) 4 0
+        in-turn : n - 1 ≡ q .«last_user_count» → queue.addRefusal q n ≡ pick (queue.overfull q (n - 1)) 4 0
         unfolding queue.addRefusal
         in-turn d =
             ⊎-elim
             (λ z. simp (ne-eqb _ _ b, le-ltb _ _ c, z .1))
-            (λ z. let k : q .user + 1 ≡ n = omega (arith, b) in simp (ne-eqb _ _ b, le-ltb _ _ c, z .1, eq-eqb _ _ k))
-            (split-eqb (q .user) 0)
+            (λ z. let k : q .«last_user_count» + 1 ≡ n = omega (arith, b) in simp (ne-eqb _ _ b, le-ltb _ _ c, z .1, eq-eqb _ _ k))
+            (split-eqb (q .«last_user_count») 0)
 
-        pub take-rest : (r : ℕ) → n - 1 ≡ q .user → r ≡ queue.addRefusal q n → r ≡ takeAnswer (deskOf y l [] []) s n
+        pub take-rest : (r : ℕ) → n - 1 ≡ q .«last_user_count» → r ≡ queue.addRefusal q n → r ≡ takeAnswer (deskOf y l [] []) s n
         unfolding takeAnswer
         take-rest r d g =
-            let d′ : n - 1 ≡ seatAt l s .user = rw e at d in
+            let d′ : n - 1 ≡ seatAt l s .«last_user_count» = rw e at d in
             simp (lt-leb _ _ a, ne-eqb _ _ b, le-ltb _ _ c, eq-eqb _ _ d′)
-            (g ∙ in-turn d ∙ ap (λ (x : QueueState). pick (queue.overfull x n) 4 0) e)
+            (g ∙ in-turn d ∙ ap (λ (x : QueueState). pick (queue.overfull x (n - 1)) 4 0) e)
 
   pub take-sane : (q : QueueState) → s < y .seats → Seated y l → q ≡ seatAt l s → queues.Sane q
   take-sane q a h e = rw e (h .seat s a .sane)
@@ -104,7 +104,7 @@ module _ (y : DeskState) (l w : List ℕ) (s : ℕ) (c n : ℕ) (g : n ≡ takeA
     pub take-some : 1 ≤ c
     take-some = free .some
 
-    pub take-low : c - 1 ≤ 1000000000
+    pub take-low : c - 1 < lastCount
     take-low = omega (arith, free .low, free .some)
 
     pub take-ring : s * 128 < 4294967296
@@ -148,7 +148,7 @@ module _ (m c : ℕ) where
 
 pub ruleset reports = (report-none, report-some)
 
-pub known-frame : (y : DeskState) (l : List ℕ) (k : ℕ) (r r′ : ℤ) → k ≡ leastOf (y .seats - 1) (λ s. seatAt l s .added) → r ≡ frameOf k → r′ ≡ r
+pub known-frame : (y : DeskState) (l : List ℕ) (k : ℕ) (r r′ : ℤ) → k ≡ leastOf (y .seats - 1) (λ s. seatAt l s .«last_added_count») → r ≡ frameOf k → r′ ≡ r
     → r′ ≡ calls.knownFrame (deskOf y l [] [])
 known-frame y l k r r′ e a b = b ∙ a ∙ ap frameOf e
 
@@ -160,9 +160,9 @@ unfolding leastOf
 least-few zero g c h = h
 least-few (suc n) g c h = omega (arith, least-few n g c h)
 
-module _ (y : DeskState) (l : List ℕ) (k : ℕ) (h : Seated y l) (e : k ≡ leastOf (y .seats - 1) (λ s. seatAt l s .added)) where
+module _ (y : DeskState) (l : List ℕ) (k : ℕ) (h : Seated y l) (e : k ≡ leastOf (y .seats - 1) (λ s. seatAt l s .«last_added_count»)) where
   known-few : k ≤ 1000000061
-  known-few = rw e (least-few (y .seats - 1) (λ s. seatAt l s .added) 1000000061 (h .seat 0 (h .ready .one) .sane .few))
+  known-few = rw e (least-few (y .seats - 1) (λ s. seatAt l s .«last_added_count») 1000000061 (h .seat 0 (h .ready .one) .sane .few))
 
   pub advance-sum : y .limit + k < 4294967296
   advance-sum = omega (arith, known-few, h .ready .near)
@@ -184,7 +184,7 @@ pub ruleset advances = (advance-sum, advance-far, advance-near, advance-last)
 
 -- Settled
 module _ (y : DeskState) (l : List ℕ) (f : ℕ) where
-  module _ (m : ℕ) (e : m ≡ lowestOf (y .seats) (λ s. seatAt l s .wrong)) where
+  module _ (m : ℕ) (e : m ≡ lowestOf (y .seats) (λ s. seatAt l s .«first_incorrect_count»)) where
     pub right-none : m ≡ 0 → true ≡ rightUpTo (deskOf y l [] []) f
     right-none a = rw (← e) (simp (eq-eqb _ _ a))
 
@@ -200,7 +200,7 @@ module _ (y : DeskState) (l : List ℕ) (f : ℕ) where
     unfolding isSettled
     settled-gone b = simp (lt-ltb _ _ a, lt-leb _ _ b)
 
-    module _ (b : y .current ≤ f + 1 + y .limit) (k : ℕ) (e : k ≡ leastOf (y .seats - 1) (λ s. seatAt l s .added)) where
+    module _ (b : y .current ≤ f + 1 + y .limit) (k : ℕ) (e : k ≡ leastOf (y .seats - 1) (λ s. seatAt l s .«last_added_count»)) where
       pub settled-unknown : k ≤ f → false ≡ isSettled (deskOf y l [] []) f
       unfolding isSettled
       settled-unknown c = simp (lt-ltb _ _ a, le-leb _ _ b, ← e, le-ltb _ _ c)
@@ -318,22 +318,22 @@ pub ruleset shows = (show-some, show-refused, show-untouched, show-done, show-wr
 
 pub ruleset logs = (log-some, log-room, log-refused, log-untouched, log-done, log-written)
 
--- a standing
+-- how a word stands
 module _ (s : QueueState) (f : ℕ) where
-  pub standing-guess : (s .predicting ≡ 0 → ⊥) → 1 ≡ layer.standingOf (confirms s f)
+  pub status-guess : (s .«prediction_count» ≡ 0 → ⊥) → 1 ≡ layer.statusOf (confirms s f)
   unfolding confirms
-  standing-guess a = simp (ne-eqb _ _ a)
+  status-guess a = simp (ne-eqb _ _ a)
 
-  module _ (a : s .predicting ≡ 0) where
-    pub standing-held : f < s .added → 0 ≡ layer.standingOf (confirms s f)
+  module _ (a : s .«prediction_count» ≡ 0) where
+    pub status-held : f < s .«last_added_count» → 0 ≡ layer.statusOf (confirms s f)
     unfolding confirms
-    standing-held b = simp (eq-eqb _ _ a, lt-ltb _ _ b)
+    status-held b = simp (eq-eqb _ _ a, lt-ltb _ _ b)
 
-    pub standing-fresh : s .added ≤ f → 1 ≡ layer.standingOf (confirms s f)
+    pub status-fresh : s .«last_added_count» ≤ f → 1 ≡ layer.statusOf (confirms s f)
     unfolding confirms
-    standing-fresh b = simp (eq-eqb _ _ a, le-ltb _ _ b)
+    status-fresh b = simp (eq-eqb _ _ a, le-ltb _ _ b)
 
-pub standing-at : (l : List ℕ) (i f r : ℕ) (s : QueueState) → s ≡ seatAt l i → r ≡ layer.standingOf (confirms s f) → r ≡ layer.standingOf (confirms (seatAt l i) f)
-standing-at l i f r s e a = rw e at a
+pub status-at : (l : List ℕ) (i f r : ℕ) (s : QueueState) → s ≡ seatAt l i → r ≡ layer.statusOf (confirms s f) → r ≡ layer.statusOf (confirms (seatAt l i) f)
+status-at l i f r s e a = rw e at a
 
-pub ruleset standings = (standing-guess, standing-held, standing-fresh, standing-at)
+pub ruleset statuses = (status-guess, status-held, status-fresh, status-at)

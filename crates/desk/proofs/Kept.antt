@@ -2,12 +2,12 @@
 use Prim.Native.Nat.{ℕ, zero, suc, _+_, _-_, _<_, _≤_, min}
 use native.Mathlib.Omega.{arith}
 use mathlib.Core.Path.{_≡_, refl, ap, sym, _∙_}
-use mathlib.Core.Bool.{true, false, true≢false}
-use mathlib.Core.Logic.{_⊎_, inl, inr, ⊎-elim}
+use mathlib.Core.Bool.{true, false}
+use mathlib.Core.Logic.{_⊎_, ⊎-elim}
 use Prim.{absurd}
 use mathlib.Core.List.{List, [], _∷_}
-use lib.ListN.{length, getD, length-set}
-use borrow.Author.Tests.{ltb-false, le-leb, lt-ltb, ne-eqb}
+use lib.ListN.{length, getD}
+use borrow.Author.Tests.{le-leb, lt-ltb, ne-eqb}
 use Rattle.frame_info.proofs.Split.{split-eqb, split-ltb, split-leb, split-bool}
 use Rattle.frame_info.specs.Frame.{lastCount, countOf}
 use Rattle.console.specs.declared.Console.{Console}
@@ -17,13 +17,15 @@ use Rattle.input_queue.specs.Queue.{freshState, put, fill, used, add, asked, ne
 use Rattle.input_queue.specs.Ring.{wordAt}
 use Rattle.input_queue.specs.Calls.{overfull}
 use Rattle.input_queue.proofs.Cases.{wrong-idle, wrong-stands, wrong-matched, wrong-begins, predicting-idle, predicting-on, predicting-ends}
-use Rattle.input_queue.proofs.Kept.{fresh-sane, add-sane, asked-sane, discard-sane, reset-sane, add-long}
+use Rattle.input_queue.proofs.Kept.{fresh-sane, not-over, add-sane, asked-sane, discard-sane, reset-sane, add-long}
 use Rattle.sync_layer.specs.Lists.{lowestOf}
 use Rattle.sync_layer.specs.Seats.{ringOf, seatAt, mapSeats}
-use Rattle.sync_layer.specs.Slots.{slotOf, servedFrom, saveSlot, clearSlots}
+use Rattle.sync_layer.specs.Slots.{slotOf, servedFrom, saveSlot}
 use Rattle.sync_layer.specs.Calls as layer
 use Rattle.sync_layer.specs.Whole.{SeatRoom, WordRoom, SlotRoom}
 use Rattle.sync_layer.proofs.Rows.{row-long}
+use Rattle.sync_layer.proofs.Answers.{fits-in}
+use Rattle.sync_layer.proofs.Kept.{save-long, clear-long, range-each, each-range}
 use Rattle.sync_layer.proofs.Seating.{seat-long, seat-same, seat-other, map-long, map-at}
 use Rattle.desk.specs.declared.DeskState.{DeskState}
 use Rattle.desk.specs.Desk.{Desk, Setup, queueOf, knownOf, mismatchOf, setupState, setupOf, takeAnswer, taken, take, load, resetAll, discardAll, confirm, advanceAnswer, serve, oneFrame, replay, corrected, settle, advance}
@@ -34,8 +36,8 @@ use Rattle.desk.specs.Whole.{Guessing, Seat, Seated, Whole}
 
 -- what a seat's mismatch and prediction are to the current frame
 record Follows (c : ℕ) (q : QueueState) : Type 0 where
-  past : q .wrong ≤ c
-  guessing : (q .predicting ≡ 0 → ⊥) → q .wrong ≡ 0 → Guessing c q
+  past : q .«first_incorrect_count» ≤ c
+  guessing : (q .«prediction_count» ≡ 0 → ⊥) → q .«first_incorrect_count» ≡ 0 → Guessing c q
 
 wrong-past : (c : ℕ) (q : QueueState) (w : ℕ) → Follows c q → queue.wrongAfter q w ≤ c
 wrong-past c q w h =
@@ -45,19 +47,19 @@ wrong-past c q w h =
     (λ b. ⊎-elim
     (λ d. rw (← wrong-matched q w (a .0) (b .0) (d .0)) (omega arith))
     (λ d. rw (← wrong-begins q w (a .0) (b .0) (d .0)) (omega (arith, h .guessing (a .0) (b .0) .past)))
-    (split-eqb (q .guess) w))
+    (split-eqb (q .prediction) w))
     (λ b. rw (← wrong-stands q w (a .0) (b .0)) (h .past))
-    (split-eqb (q .wrong) 0))
-    (split-eqb (q .predicting) 0)
+    (split-eqb (q .«first_incorrect_count») 0))
+    (split-eqb (q .«prediction_count») 0)
 
-wrong-none : (q : QueueState) (w : ℕ) → (q .predicting ≡ 0 → ⊥) → queue.wrongAfter q w ≡ 0 → q .wrong ≡ 0
+wrong-none : (q : QueueState) (w : ℕ) → (q .«prediction_count» ≡ 0 → ⊥) → queue.wrongAfter q w ≡ 0 → q .«first_incorrect_count» ≡ 0
 wrong-none q w a e =
-    ⊎-elim (λ b. b .0) (λ b. wrong-stands q w a (b .0) ∙ e) (split-eqb (q .wrong) 0)
+    ⊎-elim (λ b. b .0) (λ b. wrong-stands q w a (b .0) ∙ e) (split-eqb (q .«first_incorrect_count») 0)
 
 -- a word that is stored
 module _ (c : ℕ) (q : QueueState) (w : ℕ) (h : Follows c q) where
   put-guessing : (queue.predictingAfter q (queue.wrongAfter q w) ≡ 0 → ⊥) → queue.wrongAfter q w ≡ 0
-      → (queue.predictingAfter q (queue.wrongAfter q w) ≡ q .added + 1 + 1) × (q .requested ≡ c) × (q .added + 1 < c)
+      → (queue.predictingAfter q (queue.wrongAfter q w) ≡ q .«last_added_count» + 1 + 1) × (q .«last_requested_count» ≡ c) × (q .«last_added_count» + 1 < c)
   put-guessing z e =
       ⊎-elim
       (λ a. absurd (z (sym (predicting-idle q (queue.wrongAfter q w) (a .0)))))
@@ -70,8 +72,8 @@ module _ (c : ℕ) (q : QueueState) (w : ℕ) (h : Follows c q) where
         g .last,
         omega (arith, g .next, g .last, g .past, b .0),
       ))
-      (split-eqb (q .predicting) (q .requested)))
-      (split-eqb (q .predicting) 0)
+      (split-eqb (q .«prediction_count») (q .«last_requested_count»)))
+      (split-eqb (q .«prediction_count») 0)
 
   put-follows : Follows c (put q w)
   unfolding put
@@ -99,9 +101,9 @@ add-follows c at q f w h =
     ⊎-elim
     (λ a. simp (a .1) (used-follows c q f h))
     (λ a. simp (a .1)
-    (put-follows c (fill (f + q .delay - q .added) (used q f) (newest at (q .added))) w
-    (fill-follows c (f + q .delay - q .added) (used q f) (newest at (q .added)) (used-follows c q f h))))
-    (split-ltb (f + q .delay) (q .added))
+    (put-follows c (fill (f + q .«frame_delay» - q .«last_added_count») (used q f) (newest at (q .«last_added_count»))) w
+    (fill-follows c (f + q .«frame_delay» - q .«last_added_count») (used q f) (newest at (q .«last_added_count»)) (used-follows c q f h))))
+    (split-ltb (f + q .«frame_delay») (q .«last_added_count»))
 
 follows : (c : ℕ) (q : QueueState) → Seat c q → Follows c q
 follows c q h = record { past = h .past; guessing = h .guessing }
@@ -109,7 +111,7 @@ follows c q h = record { past = h .past; guessing = h .guessing }
 pub fresh-seat : (d : ℕ) → d ≤ 60 → Seat 0 (freshState d)
 fresh-seat d h = record { sane = fresh-sane d h; past = omega arith; guessing = λ z e. absurd (z refl) }
 
-pub add-seat : (c : ℕ) (at : ℕ → ℕ) (q : QueueState) (f w : ℕ) → Seat c q → f ≤ 1000000000 → (f + q .delay < q .added) ⊎ (f + q .delay < q .oldest + 128)
+pub add-seat : (c : ℕ) (at : ℕ → ℕ) (q : QueueState) (f w : ℕ) → Seat c q → f < lastCount → (f + q .«frame_delay» < q .«last_added_count») ⊎ (f + q .«frame_delay» < q .oldest + 128)
     → Seat c (add at q f w)
 add-seat c at q f w h a b =
     let g = add-follows c at q f w (follows c q h) in
@@ -129,16 +131,16 @@ discard-seat c f q h =
     }
 
 -- a request of the current frame, which is then one more
-asked-next : (c : ℕ) (q : QueueState) → Follows c q → (queue.predictingAsked q c ≡ 0 → ⊥) → q .wrong ≡ 0
-    → (queue.predictingAsked q c ≡ q .added + 1) × (q .added < c + 1)
+asked-next : (c : ℕ) (q : QueueState) → Follows c q → (queue.predictingAsked q c ≡ 0 → ⊥) → q .«first_incorrect_count» ≡ 0
+    → (queue.predictingAsked q c ≡ q .«last_added_count» + 1) × (q .«last_added_count» < c + 1)
 asked-next c q h z e =
     ⊎-elim
     (λ a. ⊎-elim
     (λ b. absurd (z (simp (a .1, b .1))))
     (λ b. (simp (a .1, b .1), omega (arith, b .0)))
-    (split-ltb c (q .added)))
+    (split-ltb c (q .«last_added_count»)))
     (λ a. let g = h .guessing (a .0) e in (simp (a .1) (g .next), omega (arith, g .past)))
-    (split-eqb (q .predicting) 0)
+    (split-eqb (q .«prediction_count») 0)
 
 pub asked-seat : (c : ℕ) (p at : ℕ → ℕ) (q : QueueState) → Seat c q → Seat (c + 1) (asked p at q c)
 unfolding asked
@@ -172,8 +174,8 @@ lowest-within (suc n) g c h =
     (split-eqb (lowestOf n g) 0)
 
 -- a mismatch is past
-pub mismatch-past : (y : DeskState) (l : List ℕ) → Seated y l → lowestOf (y .seats) (λ s. seatAt l s .wrong) ≤ y .current
-mismatch-past y l h = lowest-within (y .seats) (λ s. seatAt l s .wrong) (y .current) (λ s x. h .seat s x .past)
+pub mismatch-past : (y : DeskState) (l : List ℕ) → Seated y l → lowestOf (y .seats) (λ s. seatAt l s .«first_incorrect_count») ≤ y .current
+mismatch-past y l h = lowest-within (y .seats) (λ s. seatAt l s .«first_incorrect_count») (y .current) (λ s x. h .seat s x .past)
 
 -- The steps of a settle ---------------------------------------------------------------------------------------------------------
 
@@ -216,11 +218,6 @@ confirm-whole d h =
     (λ b. simp (a .1, b .1) (discard-whole d (min (knownOf d - 1) (d .state .current) - 1) h))
     (split-eqb (min (knownOf d - 1) (d .state .current)) 0))
     (split-eqb (knownOf d) 0)
-
--- a slot that is written keeps the list's length
-pub save-long : (limit : ℕ) (l : List ℕ) (f : ℕ) (k : Console) → length (saveSlot limit l f k) ≡ length l
-unfolding saveSlot
-save-long limit l f k = row-long servedFrom l (slotOf limit f) (λ i. getD ((f + 1) ∷ k .head ∷ k .kind ∷ k .seal ∷ []) i 0)
 
 module _ (step : Console → List ℕ → Console) (p : ℕ → ℕ) where
   frame-long : (d : Desk) → length (oneFrame step p d .slots) ≡ length (d .slots)
@@ -327,8 +324,8 @@ pub record Accepts (d : Desk) (s n : ℕ) : Type 0 where
   pub here : s < d .state .seats
   pub some : 1 ≤ n
   pub low : n ≤ lastCount
-  pub next : n - 1 ≡ queueOf d s .user
-  pub fits : overfull (queueOf d s) n ≡ false
+  pub next : n - 1 ≡ queueOf d s .«last_user_count»
+  pub fits : overfull (queueOf d s) (n - 1) ≡ false
 
 pub take-accepts : (d : Desk) (s n : ℕ) → takeAnswer d s n ≡ 0 → Accepts d s n
 unfolding takeAnswer
@@ -343,22 +340,12 @@ take-accepts d s n z =
     (λ f. ⊎-elim
     (λ g. absurd (omega (arith, simp (a .1, b .1, e .1, f .1, g) at z)))
     (λ g. record { here = a .0; some = omega (arith, b .0); low = e .0; next = f .0; fits = g })
-    (split-bool (overfull (queueOf d s) n)))
+    (split-bool (overfull (queueOf d s) (n - 1))))
     (λ f. absurd (omega (arith, simp (a .1, b .1, e .1, f .1) at z)))
-    (split-eqb (n - 1) (queueOf d s .user)))
+    (split-eqb (n - 1) (queueOf d s .«last_user_count»)))
     (split-ltb lastCount n))
     (split-eqb n 0))
     (split-leb (d .state .seats) s)
-
--- it is tossed, or has room
-accepts-room : (d : Desk) (s n : ℕ) → Accepts d s n
-    → (n - 1 + queueOf d s .delay < queueOf d s .added) ⊎ (n - 1 + queueOf d s .delay < queueOf d s .oldest + 128)
-accepts-room d s n h =
-    let q = queueOf d s in
-    ⊎-elim
-    (λ a. inl (omega (arith, h .some)))
-    (λ a. inr (omega (arith, h .some, ltb-false (q .oldest + 128) (n + q .delay) (simp (a .1) at (h .fits)))))
-    (split-leb (n + q .delay) (q .added))
 
 taken-whole : (d : Desk) (s n w : ℕ) → Whole d → Accepts d s n → Whole (taken d s (n - 1) w)
 unfolding taken
@@ -372,7 +359,7 @@ taken-whole d s n w h a =
         seat = λ t x.
             ⊎-elim
             (λ e. rw (e .0, seat-same (d .seats) s q (omega (arith, a .here, r .few, h .seated .room)))
-            (add-seat (d .state .current) (wordAt (d .words) (ringOf s)) (queueOf d s) (n - 1) w (h .seated .seat s (a .here)) (omega (arith, a .low, a .some)) (accepts-room d s n a)))
+            (add-seat (d .state .current) (wordAt (d .words) (ringOf s)) (queueOf d s) (n - 1) w (h .seated .seat s (a .here)) (omega (arith, a .low, a .some)) (not-over (queueOf d s) (n - 1) (a .fits))))
             (λ e. rw (seat-other (d .seats) s t q (e .0)) (h .seated .seat t x))
             (split-eqb t s);
       };
@@ -390,59 +377,29 @@ take-whole d s n w h =
 
 -- Setup -------------------------------------------------------------------------------------------------------------------------
 
-late-each : (l : List ℕ) → layer.allLate l ≡ true → (s : ℕ) → s < length l → getD l s 0 ≤ 60
-late-each [] e s x = absurd (omega arith)
-late-each (d ∷ l) e zero x =
-    ⊎-elim (λ a. a .0) (λ a. absurd (true≢false (sym e ∙ simp (a .1)))) (split-leb d 60)
-late-each (d ∷ l) e (suc s) x =
-    ⊎-elim
-    (λ a. late-each l (simp (a .1) at e) s (omega arith))
-    (λ a. absurd (true≢false (sym e ∙ simp (a .1))))
-    (split-leb d 60)
-
-each-late : (l : List ℕ) → ((s : ℕ) → s < length l → getD l s 0 ≤ 60) → layer.allLate l ≡ true
-each-late [] h = refl
-each-late (d ∷ l) h = simp (le-leb d 60 (h 0 (omega arith))) (each-late l (λ s x. h (suc s) (omega arith)))
-
 -- a setup that is not refused is one within its ranges
 module _ (u : Setup) where
   pub fit-fits : Fit u → layer.fits (u .limit) (u .predictor) (u .delays) ≡ true
   unfolding layer.fits
   fit-fits h =
-      let z : length (u .delays) ≡ 0 → ⊥ = λ e. omega (arith, h .one) in
-      simp (ne-eqb _ _ z, le-leb _ _ (h .few), le-leb _ _ (h .near), lt-ltb _ _ (h .guess)) (each-late (u .delays) (h .late))
+      let z : length (u .delays) ≡ 0 → ⊥ = λ e. omega (arith, h .some-seat) in
+      simp (ne-eqb _ _ z, le-leb _ _ (h .seats-in-range), le-leb _ _ (h .limit-in-range), lt-ltb _ _ (h .predictor-in-range))
+      (each-range (u .delays) (h .delays-in-range))
 
   module _ (a : SeatRoom (u .seats)) (b : WordRoom (u .words)) (c : SlotRoom (u .slots)) where
     pub fits-fit : layer.fits (u .limit) (u .predictor) (u .delays) ≡ true → Fit u
-    unfolding layer.fits
     fits-fit y =
-        ⊎-elim
-        (λ e. absurd (true≢false (sym y ∙ simp (e .1))))
-        (λ e. ⊎-elim
-        (λ f. ⊎-elim
-        (λ g. ⊎-elim
-        (λ k. record {
-          one = omega (arith, e .0);
-          few = f .0;
-          near = g .0;
-          late = late-each (u .delays) (simp (e .1, f .1, g .1, k .1) at y);
-          guess = k .0;
-          room = a;
-          wide = b;
-          deep = c;
-        })
-        (λ k. absurd (true≢false (sym y ∙ simp (e .1, f .1, g .1, k .1))))
-        (split-ltb (u .predictor) 3))
-        (λ g. absurd (true≢false (sym y ∙ simp (e .1, f .1, g .1))))
-        (split-leb (u .limit) 15))
-        (λ f. absurd (true≢false (sym y ∙ simp (e .1, f .1))))
-        (split-leb (length (u .delays)) 4))
-        (split-eqb (length (u .delays)) 0)
-
-clear-long : (n : ℕ) (l : List ℕ) → length (clearSlots n l) ≡ length l
-unfolding clearSlots
-clear-long zero l = refl
-clear-long (suc n) l = simp length-set (clear-long n l)
+        let f = fits-in (u .limit) (u .predictor) (u .delays) y in
+        record {
+          some-seat = f .some;
+          seats-in-range = f .few;
+          limit-in-range = f .near;
+          delays-in-range = λ s x. range-each (u .delays) (f .late) s;
+          predictor-in-range = f .guess;
+          seats-room = a;
+          words-room = b;
+          slots-room = c;
+        }
 
 module _ (delays l : List ℕ) (few : length delays ≤ 4) (room : SeatRoom l) where
   fresh-seats : ((s : ℕ) → s < length delays → getD delays s 0 ≤ 60) → (s : ℕ) → s < length delays → Seat 0 (seatAt (layer.freshSeats delays l) s)
@@ -462,9 +419,15 @@ setup-whole u a b c = ⊎-elim fitting shut (split-bool (layer.fits (u .limit) (
         simp e
         (record {
           seated = record {
-            ready = record { one = h .one; few = h .few; near = h .near; guess = h .guess; early = omega arith };
-            room = fresh-room (u .delays) (u .seats) (h .few) a;
-            seat = fresh-seats (u .delays) (u .seats) (h .few) a (h .late);
+            ready = record {
+              one = h .some-seat;
+              few = h .seats-in-range;
+              near = h .limit-in-range;
+              guess = h .predictor-in-range;
+              early = omega arith;
+            };
+            room = fresh-room (u .delays) (u .seats) (h .seats-in-range) a;
+            seat = fresh-seats (u .delays) (u .seats) (h .seats-in-range) a (h .delays-in-range);
           };
           wide = b;
           deep = rw (clear-long (suc (u .limit)) (u .slots)) c;

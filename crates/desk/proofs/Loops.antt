@@ -41,8 +41,8 @@ module _ (n : ℕ) (g : ℕ → ℕ) where
     pub least-end : n ≤ i → m ≡ leastOf (n - 1) g
     least-end p = let e : n ≡ i = omega (arith, a .upto) in rw e (a .is)
 
-pub seat-added : (l : List ℕ) (i : ℕ) (s : QueueState) → s ≡ seatAt l i → s .added ≡ seatAt l i .added
-seat-added l i s e = ap (λ (q : QueueState). q .added) e
+pub seat-added : (l : List ℕ) (i : ℕ) (s : QueueState) → s ≡ seatAt l i → s .«last_added_count» ≡ seatAt l i .«last_added_count»
+seat-added l i s e = ap (λ (q : QueueState). q .«last_added_count») e
 
 pub ruleset leasts = (least-start, least-turn, least-end, seat-added)
 

@@ -33,7 +33,8 @@ use Rattle.desk.specs.Settled.{shownWord}
 use Rattle.desk.specs.Calls as calls
 use Rattle.desk.specs.Whole.{Seated, Whole}
 use Rattle.desk.proofs.Loops.{row-eq, write-eq, part-row}
-use Rattle.desk.proofs.Kept.{save-long, mismatch-past, back-whole, confirm-state, frame-whole, frame-current, corrected-whole, corrected-current, settle-whole}
+use Rattle.sync_layer.proofs.Kept.{save-long}
+use Rattle.desk.proofs.Kept.{mismatch-past, back-whole, confirm-state, frame-whole, frame-current, corrected-whole, corrected-current, settle-whole}
 
 -- Every seat asked so far -------------------------------------------------------------------------------------------------------
 
@@ -74,10 +75,12 @@ module _ (n k c : ℕ) (l₀ w m₀ : List ℕ) (from : ℕ) where
     serving-reach p h r = omega (arith, v .long-slots)
 
     pub serving-turn : (s : QueueState) (a : Asked) (l′ : List ℕ) → i < n → s ≡ seatAt l i
-        → a ≡ asking (predicted k) (wordAt w (i * 128)) s c → l′ ≡ setSeat l i (a .state)
+        → a ≡ asking (predicted k) (wordAt w (i * 128)) s (c + 1 - 1) → l′ ≡ setSeat l i (a .state)
         → Serving n k c l₀ w m₀ from l′ (set m (from + i) (a .word)) (i + 1)
     unfolding mapSeats writeRow
-    serving-turn s a l′ p e g h =
+    serving-turn s a l′ p e g′ h =
+        let k₁ : c + 1 - 1 ≡ c = omega arith in
+        let g : a ≡ asking (predicted k) (wordAt w (i * 128)) s c = rw k₁ at g′ in
         record {
           upto = omega arith;
           seats = rw add-one (h ∙ rw (g, e, stands) (ap (λ (x : List ℕ). setSeat x i (askSeat k c w i (seatAt l₀ i))) (v .seats)));
@@ -202,11 +205,11 @@ load-state y m f k e = rw e
 
 pub ruleset loads = (load-state)
 
-pub correct-none : (y : DeskState) (l w m : List ℕ) (p : ℕ → ℕ) (n : ℕ) → n ≡ lowestOf (y .seats) (λ s. seatAt l s .wrong) → n ≡ 0 → deskOf y l w m ≡ corrected stepOf p (deskOf y l w m)
+pub correct-none : (y : DeskState) (l w m : List ℕ) (p : ℕ → ℕ) (n : ℕ) → n ≡ lowestOf (y .seats) (λ s. seatAt l s .«first_incorrect_count») → n ≡ 0 → deskOf y l w m ≡ corrected stepOf p (deskOf y l w m)
 unfolding corrected
 correct-none y l w m p n e z = rw (← e) (simp (eq-eqb _ _ z))
 
-module _ (y : DeskState) (l w m : List ℕ) (n : ℕ) (h : Whole (deskOf y l w m)) (e : n ≡ lowestOf (y .seats) (λ s. seatAt l s .wrong)) (z : n ≡ 0 → ⊥)
+module _ (y : DeskState) (l w m : List ℕ) (n : ℕ) (h : Whole (deskOf y l w m)) (e : n ≡ lowestOf (y .seats) (λ s. seatAt l s .«first_incorrect_count»)) (z : n ≡ 0 → ⊥)
     (b : DeskState) (l′ : List ℕ) (a : b ≡ load (deskOf y [] [] m) (n - 1) .state) (c : l′ ≡ mapSeats (y .seats) (λ i q. reset q) l) where
   back-desk : deskOf b l′ w m ≡ resetAll (load (deskOf y l w m) (n - 1))
   unfolding resetAll load
@@ -245,7 +248,7 @@ pub ruleset corrects = (correct-none, correct-whole, correct-upto, correct-early
 
 -- Confirm -----------------------------------------------------------------------------------------------------------------------
 
-module _ (y : DeskState) (l : List ℕ) (k : ℕ) (e : k ≡ leastOf (y .seats - 1) (λ s. seatAt l s .added)) where
+module _ (y : DeskState) (l : List ℕ) (k : ℕ) (e : k ≡ leastOf (y .seats - 1) (λ s. seatAt l s .«last_added_count»)) where
   pub confirm-unknown : k ≡ 0 → deskOf y l [] [] ≡ confirm (deskOf y l [] [])
   unfolding confirm
   confirm-unknown a = rw (← e) (simp (eq-eqb _ _ a))
@@ -316,7 +319,7 @@ same-numbers : (a b c f : ℕ) (s : DeskState) → s .seats ≡ a → s .limit �
 same-numbers a b c f s e g h i = rw (← e, ← g, ← h, ← i)
 
 module _ (y : DeskState) (l w m : List ℕ) (h : Whole (deskOf y l w m)) where
-  pub settle-low : (n : ℕ) → n ≡ lowestOf (y .seats) (λ s. seatAt l s .wrong) → n ≤ y .current
+  pub settle-low : (n : ℕ) → n ≡ lowestOf (y .seats) (λ s. seatAt l s .«first_incorrect_count») → n ≤ y .current
   settle-low n e = omega (arith, e, mismatch-past y l (h .seated))
 
   module _ (s : DeskState) (l₁ m₁ : List ℕ) (e : deskOf s l₁ w m₁ ≡ corrected stepOf (predicted (y .predictor)) (deskOf y l w m)) where
@@ -341,20 +344,20 @@ module _ (y : DeskState) (l w m : List ℕ) (h : Whole (deskOf y l w m)) where
     unfolding settle
     settle-desk l₂ a = confirm-lists y (s .console) l₁ l₂ w m₁ a ∙ ap confirm settle-given
 
-pub settle-report : (y : DeskState) (l w m : List ℕ) (n : ℕ) (r : Report) → n ≡ lowestOf (y .seats) (λ s. seatAt l s .wrong) → r ≡ calls.reportAt n (y .current) → r ≡ calls.reportOf (deskOf y l w m)
+pub settle-report : (y : DeskState) (l w m : List ℕ) (n : ℕ) (r : Report) → n ≡ lowestOf (y .seats) (λ s. seatAt l s .«first_incorrect_count») → r ≡ calls.reportAt n (y .current) → r ≡ calls.reportOf (deskOf y l w m)
 settle-report y l w m n r e a = rw e at a
 
 pub ruleset settles = (settle-low, settle-seated, settle-desk, settle-report)
 
--- One frame, with the words served and their standings --------------------------------------------------------------------------
+-- One frame, with the words served and their statuses ---------------------------------------------------------------------------
 
 -- a slot lies within the lent slots
 slot-within : (limit f : ℕ) → slotOf limit f ≤ limit * 16
 slot-within limit f = let h = mod-lt f {m = limit + 1} (omega arith) in omega arith
 
 module _ (s : DeskState) (l₁ w m₁ : List ℕ) (h : Whole (deskOf s l₁ w m₁)) where
-  pub serve-standings : (o o′ : List ℕ) → o′ ≡ writeRow (s .seats) o 0 (calls.standing (deskOf s l₁ [] [])) → o′ ≡ writeRow (s .seats) o 0 (calls.standing (deskOf s l₁ w m₁))
-  serve-standings o o′ a = a
+  pub serve-statuses : (o o′ : List ℕ) → o′ ≡ writeRow (s .seats) o 0 (calls.statusOf (deskOf s l₁ [] [])) → o′ ≡ writeRow (s .seats) o 0 (calls.statusOf (deskOf s l₁ w m₁))
+  serve-statuses o o′ a = a
 
   module _ (t : DeskState) (l₂ m₂ : List ℕ)
       (f : deskOf t l₂ w m₂ ≡ replay stepOf (predicted (s .predictor)) (s .current + 1 - s .current) (deskOf s l₁ w m₁)) where
@@ -387,7 +390,7 @@ module _ (s : DeskState) (l₁ w m₁ : List ℕ) (h : Whole (deskOf s l₁ w m�
     pub serve-words : (o o′ : List ℕ) → o′ ≡ writeRow (s .seats) o 0 (shownWord (deskOf s [] [] m₂) (s .current)) → o′ ≡ writeRow (s .seats) o 0 (calls.servedWord (deskOf s l₁ w m₁))
     serve-words o o′ a = a ∙ write-eq (s .seats) o 0 (shownWord (deskOf s [] [] m₂) (s .current)) (calls.servedWord (deskOf s l₁ w m₁)) served-word
 
-pub ruleset serves = (serve-standings, serve-desk, serve-deep, serve-words)
+pub ruleset serves = (serve-statuses, serve-desk, serve-deep, serve-words)
 
 -- Advance -----------------------------------------------------------------------------------------------------------------------
 
@@ -409,8 +412,8 @@ module _ (y : DeskState) (l w m : List ℕ) (n : ℕ) (g : n ≡ advanceAnswer (
     unfolding calls.advanceServed
     advance-unserved o = rw (← advance-number) (simp (ne-eqb _ _ z))
 
-    pub advance-unstood : (o : List ℕ) → o ≡ calls.advanceStandings (deskOf y l w m) o
-    unfolding calls.advanceStandings
+    pub advance-unstood : (o : List ℕ) → o ≡ calls.advanceStatuses (deskOf y l w m) o
+    unfolding calls.advanceStatuses
     advance-unstood o = rw (← advance-number) (simp (ne-eqb _ _ z))
 
   module _ (z : n ≡ 0) where
@@ -431,13 +434,13 @@ module _ (y : DeskState) (l w m : List ℕ) (n : ℕ) (g : n ≡ advanceAnswer (
       pub advance-wide : (o : List ℕ) → y .seats ≤ length o → s .seats ≤ length o
       advance-wide o a = omega (arith, alike .seats)
 
-      pub advance-standings : (o o′ : List ℕ) → o′ ≡ writeRow (s .seats) o 0 (calls.standing (deskOf s l₁ w m₁)) → o′ ≡ calls.advanceStandings (deskOf y l w m) o
-      unfolding calls.advanceStandings
-      advance-standings o o′ a =
+      pub advance-statuses : (o o′ : List ℕ) → o′ ≡ writeRow (s .seats) o 0 (calls.statusOf (deskOf s l₁ w m₁)) → o′ ≡ calls.advanceStatuses (deskOf y l w m) o
+      unfolding calls.advanceStatuses
+      advance-statuses o o′ a =
           rw (← advance-number)
           (simp (eq-eqb _ _ z)
-          (a ∙ ap (λ (k : ℕ). writeRow k o 0 (calls.standing (deskOf s l₁ w m₁))) (alike .seats)
-          ∙ ap (λ (d : Desk). writeRow (y .seats) o 0 (calls.standing d)) e))
+          (a ∙ ap (λ (k : ℕ). writeRow k o 0 (calls.statusOf (deskOf s l₁ w m₁))) (alike .seats)
+          ∙ ap (λ (d : Desk). writeRow (y .seats) o 0 (calls.statusOf d)) e))
 
       pub advance-served : (o o′ : List ℕ) → o′ ≡ writeRow (s .seats) o 0 (calls.servedWord (deskOf s l₁ w m₁)) → o′ ≡ calls.advanceServed (deskOf y l w m) o
       unfolding calls.advanceServed
@@ -454,4 +457,4 @@ module _ (y : DeskState) (l w m : List ℕ) (n : ℕ) (g : n ≡ advanceAnswer (
           (simp (eq-eqb _ _ z)
           (f ∙ ap₂ (λ (k : ℕ) (d : Desk). oneFrame stepOf (predicted k) d) (alike .predictor) e))
 
-pub ruleset advancing = (advance-number, advance-refused, advance-silent, advance-unserved, advance-unstood, advance-done, advance-report, advance-settled, advance-wide, advance-standings, advance-served, advance-desk)
+pub ruleset advancing = (advance-number, advance-refused, advance-silent, advance-unserved, advance-unstood, advance-done, advance-report, advance-settled, advance-wide, advance-statuses, advance-served, advance-desk)

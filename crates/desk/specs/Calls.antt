@@ -50,21 +50,21 @@ reportAt lowest current = record { frame = frameOf lowest; count = pick (eqb low
 abbrev pub reportOf : Desk → Report
 reportOf d = reportAt (mismatchOf d) (d .state .current)
 
--- Advance answers settle's report, the words served, and whether each was confirmed (0) or predicted (1).
+-- Advance answers settle's report, the words served, and whether each was confirmed or predicted.
 unfoldable pub advanceReport : Desk → Report
 advanceReport d = pick (eqb (advanceAnswer d) 0) (reportOf d) (reportAt 0 0)
 
 abbrev pub servedWord : Desk → ℕ → ℕ
 servedWord d = serve stepOf (predicted (d .state .predictor)) d
 
-abbrev pub standing : Desk → ℕ → ℕ
-standing d s = layer.standingOf (confirms (queueOf d s) (d .state .current))
+abbrev pub statusOf : Desk → ℕ → ℕ
+statusOf d s = layer.statusOf (confirms (queueOf d s) (d .state .current))
 
 unfoldable pub advanceServed : Desk → List ℕ → List ℕ
 advanceServed d l = pick (eqb (advanceAnswer d) 0) (writeRow (d .state .seats) l 0 (servedWord (settleOf d))) l
 
-unfoldable pub advanceStandings : Desk → List ℕ → List ℕ
-advanceStandings d l = pick (eqb (advanceAnswer d) 0) (writeRow (d .state .seats) l 0 (standing (settleOf d))) l
+unfoldable pub advanceStatuses : Desk → List ℕ → List ℕ
+advanceStatuses d l = pick (eqb (advanceAnswer d) 0) (writeRow (d .state .seats) l 0 (statusOf (settleOf d))) l
 
 -- Show: 7, 21. n is the frame's count.
 unfoldable pub showAnswer : Desk → ℕ → ℕ

@@ -41,11 +41,11 @@ withSeats d l = record { state = d .state; seats = l; words = d .words; slots = 
 
 -- K, the least newest place over the seats; none where a seat has none
 abbrev pub knownOf : Desk → ℕ
-knownOf d = leastOf (d .state .seats - 1) (λ s. queueOf d s .added)
+knownOf d = leastOf (d .state .seats - 1) (λ s. queueOf d s .«last_added_count»)
 
 -- the lowest mismatch of the seats, if one stands
 abbrev pub mismatchOf : Desk → ℕ
-mismatchOf d = lowestOf (d .state .seats) (λ s. queueOf d s .wrong)
+mismatchOf d = lowestOf (d .state .seats) (λ s. queueOf d s .«first_incorrect_count»)
 
 -- Setup -------------------------------------------------------------------------------------------------------------------------
 
@@ -89,7 +89,7 @@ takeAnswer d s n =
     frameBelowZero
     (pick (ltb lastCount n)
     frameTooHigh
-    (pick (eqb (n - 1) (queueOf d s .user)) (pick (overfull (queueOf d s) n) queueFull done) notNextFrame)))
+    (pick (eqb (n - 1) (queueOf d s .«last_user_count»)) (pick (overfull (queueOf d s) (n - 1)) queueFull done) notNextFrame)))
 
 -- a word of frame f is stored in seat s's queue
 unfoldable pub taken : Desk → ℕ → ℕ → ℕ → Desk

@@ -17,6 +17,10 @@ spaced (w ∷ l) = (space ∷ wordText w) ++ spaced l
 unfoldable pub lineOf : ℕ → List ℕ → ℕ → List ℕ
 lineOf f row seal = wordText f ++ (spaced row ++ (spaced (seal ∷ []) ++ (newline ∷ [])))
 
--- how many bytes that is, for n seats
+-- a number's bytes: eight digits, and the space or the newline beside them
+abbrev pub fieldLength : ℕ
+fieldLength = 9
+
+-- how many bytes a line has, for n seats
 abbrev pub lineLength : ℕ → ℕ
-lineLength n = 9 * (n + 2)
+lineLength n = fieldLength * (n + 2)

@@ -54,17 +54,17 @@ module _ (step : Console → List ℕ → Console) (p : ℕ → ℕ) where
   unfoldable pub accepted : Setup → List Call → ℕ → List ℕ
   accepted u l = acceptedFrom (setupOf u) l
 
--- one list begins the other
-unfoldable pub Begins : List ℕ → List ℕ → Type 0
-Begins a b = ((x : List ℕ) × (b ≡ a ++ x)) ⊎ ((x : List ℕ) × (a ≡ b ++ x))
+-- one of two lists begins the other
+unfoldable pub EitherBegins : List ℕ → List ℕ → Type 0
+EitherBegins a b = ((x : List ℕ) × (b ≡ a ++ x)) ⊎ ((x : List ℕ) × (a ≡ b ++ x))
 
 -- a setup that is not refused, with room in the lists
 pub record Fit (u : Setup) : Type 0 where
-  pub one : 0 < length (u .delays)
-  pub few : length (u .delays) ≤ maxSeats
-  pub near : u .limit ≤ maxLimit
-  pub late : (s : ℕ) → s < length (u .delays) → getD (u .delays) s 0 ≤ maxDelay
-  pub guess : u .predictor < predictors
-  pub room : SeatRoom (u .seats)
-  pub wide : WordRoom (u .words)
-  pub deep : SlotRoom (u .slots)
+  pub some-seat : 0 < length (u .delays)
+  pub seats-in-range : length (u .delays) ≤ maxSeats
+  pub limit-in-range : u .limit ≤ maxLimit
+  pub delays-in-range : (s : ℕ) → s < length (u .delays) → getD (u .delays) s 0 ≤ maxDelay
+  pub predictor-in-range : u .predictor < predictors
+  pub seats-room : SeatRoom (u .seats)
+  pub words-room : WordRoom (u .words)
+  pub slots-room : SlotRoom (u .slots)

@@ -21,15 +21,15 @@ pub record Ready (y : DeskState) : Type 0 where
 
 -- a prediction stands with no mismatch: it is for the next place, which is past, and the last request was for the frame before this one
 pub record Guessing (current : ℕ) (q : QueueState) : Type 0 where
-  pub next : q .predicting ≡ q .added + 1
-  pub last : q .requested ≡ current
-  pub past : q .added < current
+  pub next : q .«prediction_count» ≡ q .«last_added_count» + 1
+  pub last : q .«last_requested_count» ≡ current
+  pub past : q .«last_added_count» < current
 
 -- one seat's numbers: a mismatch is past
 pub record Seat (current : ℕ) (q : QueueState) : Type 0 where
   pub sane : Sane q
-  pub past : q .wrong ≤ current
-  pub guessing : (q .predicting ≡ 0 → ⊥) → q .wrong ≡ 0 → Guessing current q
+  pub past : q .«first_incorrect_count» ≤ current
+  pub guessing : (q .«prediction_count» ≡ 0 → ⊥) → q .«first_incorrect_count» ≡ 0 → Guessing current q
 
 -- and every seat's
 pub record Seated (y : DeskState) (seats : List ℕ) : Type 0 where

@@ -2,6 +2,11 @@
 use crate::DeskState;
 use crate::showing::known_count;
 use crate::showing::put_words;
+use frame_info::input_status;
+use frame_info::input_status::InputStatus;
+use frame_info::lesser;
+use input_queue::INPUT_QUEUE_LENGTH;
+use sync_layer::SERVED_FROM;
 use sync_layer::discard_seats;
 use sync_layer::reset_seats;
 use sync_layer::save_slot;
@@ -19,8 +24,9 @@ ghost use Rattle.console.specs.Step.{stepOf};
 ghost use Rattle.input_queue.specs.Queue.{asked, answer, confirms};
 ghost use Rattle.input_queue.specs.Ring.{wordAt};
 ghost use Rattle.sync_layer.specs.Lists.{writeRow};
-ghost use Rattle.sync_layer.specs.Seats.{ringOf, seatAt, mapSeats};
-ghost use Rattle.sync_layer.specs.Calls.{standingOf};
+ghost use Rattle.sync_layer.specs.Seats.{maxSeats, seatWords, ringOf, seatAt, mapSeats};
+ghost use Rattle.sync_layer.specs.Slots.{maxLimit, slotWords, servedFrom};
+ghost use Rattle.sync_layer.specs.Calls.{statusOf};
 ghost use Rattle.sync_layer.specs.Whole.{WordRoom, SlotRoom};
 ghost use Rattle.desk.specs.Desk as m;
 ghost use Rattle.desk.specs.Calls as calls;
@@ -28,9 +34,11 @@ ghost use Rattle.desk.specs.Whole.{Ready, Seated, Whole};
 
 // Asks every seat for the current frame. The words go into the frame's slot, from a place on.
 fn serve_seats(seats: &mut [u32], words: &[u32], slots: &mut [u32], desk: DeskState, from: usize)
-    requires { ⌜ Seated desk (now seats) × WordRoom (now words) × (from + 4 ≤ length (now slots)) × (from ≤ 244) ⌝ }
+    requires { ⌜ Seated desk (now seats) × WordRoom (now words) × (from + maxSeats ≤ length (now slots)) × (from ≤ maxLimit * slotWords + servedFrom) ⌝ }
     ensures { λ _. ⌜ (now (seats .exit) ≡ mapSeats (desk .seats) (λ i q. asked (predicted (desk .predictor)) (wordAt (now (words .entry)) (ringOf i)) q (desk .current)) (now (seats .entry)))
-        × (now (slots .exit) ≡ writeRow (desk .seats) (now (slots .entry)) from (λ i. answer (predicted (desk .predictor)) (wordAt (now (words .entry)) (ringOf i)) (seatAt (now (seats .entry)) i) (desk .current))) ⌝ }
+        × (now (slots .exit)
+        ≡ writeRow (desk .seats) (now (slots .entry)) from
+        (λ i. answer (predicted (desk .predictor)) (wordAt (now (words .entry)) (ringOf i)) (seatAt (now (seats .entry)) i) (desk .current))) ⌝ }
 {
     let n = desk.seats as usize;
     let current = desk.current;
@@ -38,7 +46,7 @@ fn serve_seats(seats: &mut [u32], words: &[u32], slots: &mut [u32], desk: DeskSt
     let mut i: usize = 0;
     while i < n {
         let s = seat_at(&seats[..], i);
-        let asked = input_queue::ask(words, i * 128, s, predictor, current);
+        let asked = input_queue::ask(words, i * INPUT_QUEUE_LENGTH, s, predictor, current + 1);
         let state = asked.state;
         set_seat(seats, i, state);
         slots[from + i] = asked.word;
@@ -55,7 +63,7 @@ fn one_frame(seats: &mut [u32], words: &[u32], slots: &mut [u32], desk: DeskStat
     let current = desk.current;
     let state = desk.console;
     save_slot(slots, limit, current, state);
-    let from = slot_of(limit, current) + 4;
+    let from = slot_of(limit, current) + SERVED_FROM;
     serve_seats(seats, words, slots, desk, from);
     let end = from + desk.seats as usize;
     let console = state.step(&slots[from..end]);
@@ -72,7 +80,8 @@ fn one_frame(seats: &mut [u32], words: &[u32], slots: &mut [u32], desk: DeskStat
 // that the frame's code has one caller and is compiled into it.
 fn play(seats: &mut [u32], words: &[u32], slots: &mut [u32], desk: DeskState, end: u32) -> DeskState
     requires { ⌜ Whole (m.deskOf desk (now seats) (now words) (now slots)) × (desk .current < end) × (end ≤ lastCount) ⌝ }
-    ensures { λ r. ⌜ m.deskOf r (now (seats .exit)) (now (words .entry)) (now (slots .exit)) ≡ m.replay stepOf (predicted (desk .predictor)) (end - desk .current) (m.deskOf desk (now (seats .entry)) (now (words .entry)) (now (slots .entry))) ⌝ }
+    ensures { λ r. ⌜ m.deskOf r (now (seats .exit)) (now (words .entry)) (now (slots .exit))
+        ≡ m.replay stepOf (predicted (desk .predictor)) (end - desk .current) (m.deskOf desk (now (seats .entry)) (now (words .entry)) (now (slots .entry))) ⌝ }
 {
     let next = one_frame(seats, words, slots, desk);
     if next.current >= end {
@@ -99,7 +108,8 @@ fn replay(
     end: u32,
 ) -> DeskState
     requires { ⌜ Whole (m.deskOf desk (now seats) (now words) (now slots)) × (desk .current ≤ end) × (end < lastCount) ⌝ }
-    ensures { λ r. ⌜ m.deskOf r (now (seats .exit)) (now (words .entry)) (now (slots .exit)) ≡ m.replay stepOf (predicted (desk .predictor)) (end - desk .current) (m.deskOf desk (now (seats .entry)) (now (words .entry)) (now (slots .entry))) ⌝ }
+    ensures { λ r. ⌜ m.deskOf r (now (seats .exit)) (now (words .entry)) (now (slots .exit))
+        ≡ m.replay stepOf (predicted (desk .predictor)) (end - desk .current) (m.deskOf desk (now (seats .entry)) (now (words .entry)) (now (slots .entry))) ⌝ }
 {
     if desk.current >= end {
         return desk;
@@ -132,7 +142,8 @@ pub fn correct(
     lowest: u32,
 ) -> DeskState
     requires { ⌜ Whole (m.deskOf desk (now seats) (now words) (now slots)) × (lowest ≡ m.mismatchOf (m.deskOf desk (now seats) (now words) (now slots))) ⌝ }
-    ensures { λ r. ⌜ m.deskOf r (now (seats .exit)) (now (words .entry)) (now (slots .exit)) ≡ m.corrected stepOf (predicted (desk .predictor)) (m.deskOf desk (now (seats .entry)) (now (words .entry)) (now (slots .entry))) ⌝ }
+    ensures { λ r. ⌜ m.deskOf r (now (seats .exit)) (now (words .entry)) (now (slots .exit))
+        ≡ m.corrected stepOf (predicted (desk .predictor)) (m.deskOf desk (now (seats .entry)) (now (words .entry)) (now (slots .entry))) ⌝ }
 {
     if lowest == 0 {
         return desk;
@@ -140,12 +151,6 @@ pub fn correct(
     let back = load(&slots[..], desk, lowest - 1);
     reset_seats(seats, desk.seats as usize);
     replay(seats, words, slots, back, desk.current)
-}
-
-pub fn lesser(a: u32, b: u32) -> u32
-    ensures { λ r. ⌜ r ≡ Prim.Native.Nat.min a b ⌝ }
-{
-    if a < b { a } else { b }
 }
 
 // Confirms K: the queues let go of what is before it.
@@ -164,27 +169,30 @@ pub fn confirm(seats: &mut [u32], desk: DeskState)
     discard_seats(seats, desk.seats as usize, frame - 1);
 }
 
-// 0 where a request of the frame will be confirmed, 1 where it will be predicted.
-fn standing_at(seats: &[u32], seat: usize, current: u32) -> u32
-    requires { ⌜ (seat + 1) * 8 ≤ length (now seats) ⌝ }
-    ensures { λ r. ⌜ r ≡ standingOf (confirms (seatAt (now (seats .entry)) seat) current) ⌝ }
+// How a request of the frame will stand.
+fn status_at(seats: &[u32], seat: usize, current: u32) -> InputStatus
+    requires { ⌜ (seat + 1) * seatWords ≤ length (now seats) ⌝ }
+    ensures { λ r. ⌜ r ≡ statusOf (confirms (seatAt (now (seats .entry)) seat) current) ⌝ }
 {
     let s = seat_at(seats, seat);
-    if s.predicting != 0 {
-        return 1;
+    if s.prediction_count != 0 {
+        return input_status::PREDICTED;
     }
-    if current < s.added { 0 } else { 1 }
+    if current < s.last_added_count {
+        return input_status::CONFIRMED;
+    }
+    input_status::PREDICTED
 }
 
-fn put_standings(seats: &[u32], desk: DeskState, standings: &mut [u32])
-    requires { ⌜ Seated desk (now seats) × (desk .seats ≤ length (now standings)) ⌝ }
-    ensures { λ _. ⌜ now (standings .exit) ≡ writeRow (desk .seats) (now (standings .entry)) 0 (calls.standing (m.deskOf desk (now (seats .entry)) [] [])) ⌝ }
+fn put_statuses(seats: &[u32], desk: DeskState, statuses: &mut [u32])
+    requires { ⌜ Seated desk (now seats) × (desk .seats ≤ length (now statuses)) ⌝ }
+    ensures { λ _. ⌜ now (statuses .exit) ≡ writeRow (desk .seats) (now (statuses .entry)) 0 (calls.statusOf (m.deskOf desk (now (seats .entry)) [] [])) ⌝ }
 {
     let n = desk.seats as usize;
     let current = desk.current;
     let mut i: usize = 0;
     while i < n {
-        standings[i] = standing_at(seats, i, current);
+        statuses[i] = status_at(seats, i, current);
         i += 1;
     }
 }
@@ -196,14 +204,14 @@ pub fn serve_frame(
     slots: &mut [u32],
     desk: DeskState,
     served: &mut [u32],
-    standings: &mut [u32],
+    statuses: &mut [u32],
 ) -> DeskState
-    requires { ⌜ Whole (m.deskOf desk (now seats) (now words) (now slots)) × (desk .seats ≤ length (now served)) × (desk .seats ≤ length (now standings)) ⌝ }
+    requires { ⌜ Whole (m.deskOf desk (now seats) (now words) (now slots)) × (desk .seats ≤ length (now served)) × (desk .seats ≤ length (now statuses)) ⌝ }
     ensures { λ r. ⌜ (m.deskOf r (now (seats .exit)) (now (words .entry)) (now (slots .exit)) ≡ calls.frameOn (m.deskOf desk (now (seats .entry)) (now (words .entry)) (now (slots .entry))))
         × (now (served .exit) ≡ writeRow (desk .seats) (now (served .entry)) 0 (calls.servedWord (m.deskOf desk (now (seats .entry)) (now (words .entry)) (now (slots .entry)))))
-        × (now (standings .exit) ≡ writeRow (desk .seats) (now (standings .entry)) 0 (calls.standing (m.deskOf desk (now (seats .entry)) (now (words .entry)) (now (slots .entry))))) ⌝ }
+        × (now (statuses .exit) ≡ writeRow (desk .seats) (now (statuses .entry)) 0 (calls.statusOf (m.deskOf desk (now (seats .entry)) (now (words .entry)) (now (slots .entry))))) ⌝ }
 {
-    put_standings(&seats[..], desk, standings);
+    put_statuses(&seats[..], desk, statuses);
     let next = play(seats, words, slots, desk, desk.current + 1);
     put_words(&slots[..], desk, desk.current, served);
     next

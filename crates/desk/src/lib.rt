@@ -4,7 +4,8 @@
 // A desk is seven numbers, `DeskState`, that go by value, and three lists of numbers that the
 // caller lends: the seats' queues, their words, and the saved slots. Each call takes only those
 // that it touches, and tests for itself. One that refuses answers its number, the desk as it was
-// given, and writes nothing.
+// given, and writes nothing. A refused setup alone writes: it leaves a fresh desk of one seat, which
+// is a seat's numbers and the first slot.
 mod frames;
 mod line;
 mod showing;
@@ -12,9 +13,11 @@ mod showing;
 use console::Console;
 use frame_info::count_of;
 use frame_info::frame_of;
+use input_queue::INPUT_QUEUE_LENGTH;
 pub use showing::known;
 pub use showing::log;
 pub use showing::show;
+use sync_layer::MAX_SEATS;
 use sync_layer::lowest_wrong;
 use sync_layer::seat_at;
 use sync_layer::set_seat;
@@ -93,8 +96,8 @@ pub fn setup(
     Opened {
         no: o.no,
         desk: DeskState {
-            seats: layer.seats,
-            limit: layer.limit,
+            seats: layer.num_players,
+            limit: layer.max_prediction,
             predictor: layer.predictor,
             current: 0,
             console: Console::new(),
@@ -117,7 +120,7 @@ fn take_refusal(seats: &[u32], desk: DeskState, seat: u32, count: u32) -> u32
         return frame_info::refusal::FRAME_TOO_HIGH;
     }
     let s = seat_at(seats, seat as usize);
-    if count - 1 != s.user {
+    if count - 1 != s.last_user_count {
         return frame_info::refusal::NOT_NEXT_FRAME;
     }
     input_queue::add_refusal(s, count)
@@ -144,7 +147,7 @@ pub fn take(
     }
     let i = seat as usize;
     let s = seat_at(&seats[..], i);
-    let stored = input_queue::store(words, i * 128, s, count - 1, word);
+    let stored = input_queue::store(words, i * INPUT_QUEUE_LENGTH, s, count - 1, word);
     let state = stored.state;
     set_seat(seats, i, state);
     Taken {
@@ -211,22 +214,21 @@ fn advance_refusal(seats: &[u32], desk: DeskState) -> u32
     0
 }
 
-// Serves one frame: 6, 5, changing nothing; else settles, saves, requests all seats, steps, and goes
-// one frame on. Lends back each seat's word and its standing, 0 confirmed or 1 predicted.
-pub fn advance(
+// An advance into lists that have a place for every seat, for callers who have tested that.
+pub fn advance_into(
     seats: &mut [u32],
     words: &[u32],
     slots: &mut [u32],
     desk: DeskState,
     served: &mut [u32],
-    standings: &mut [u32],
+    statuses: &mut [u32],
 ) -> Advanced
-    requires { ⌜ Whole (m.deskOf desk (now seats) (now words) (now slots)) × (desk .seats ≤ length (now served)) × (desk .seats ≤ length (now standings)) ⌝ }
+    requires { ⌜ Whole (m.deskOf desk (now seats) (now words) (now slots)) × (desk .seats ≤ length (now served)) × (desk .seats ≤ length (now statuses)) ⌝ }
     ensures { λ r. ⌜ (r .no ≡ m.advanceAnswer (m.deskOf desk (now (seats .entry)) (now (words .entry)) (now (slots .entry))))
         × (r .report ≡ calls.advanceReport (m.deskOf desk (now (seats .entry)) (now (words .entry)) (now (slots .entry))))
         × (m.deskOf (r .desk) (now (seats .exit)) (now (words .entry)) (now (slots .exit)) ≡ calls.advanceOf (m.deskOf desk (now (seats .entry)) (now (words .entry)) (now (slots .entry))))
         × (now (served .exit) ≡ calls.advanceServed (m.deskOf desk (now (seats .entry)) (now (words .entry)) (now (slots .entry))) (now (served .entry)))
-        × (now (standings .exit) ≡ calls.advanceStandings (m.deskOf desk (now (seats .entry)) (now (words .entry)) (now (slots .entry))) (now (standings .entry))) ⌝ }
+        × (now (statuses .exit) ≡ calls.advanceStatuses (m.deskOf desk (now (seats .entry)) (now (words .entry)) (now (slots .entry))) (now (statuses .entry))) ⌝ }
 {
     let no = advance_refusal(&seats[..], desk);
     if no != 0 {
@@ -239,12 +241,33 @@ pub fn advance(
     let s = settle(seats, words, slots, desk);
     let settled = s.desk;
     let report = s.report;
-    let next = frames::serve_frame(seats, words, slots, settled, served, standings);
+    let next = frames::serve_frame(seats, words, slots, settled, served, statuses);
     Advanced {
         no: 0,
         report,
         desk: next,
     }
+}
+
+// Serves one frame: 6, 5, changing nothing; else settles, saves, requests all seats, steps, and goes
+// one frame on. Lends back each seat's word and its status, confirmed or predicted; what is lent past
+// the seats stays as it was.
+pub fn advance(
+    seats: &mut [u32],
+    words: &[u32],
+    slots: &mut [u32],
+    desk: DeskState,
+    served: &mut [u32; MAX_SEATS],
+    statuses: &mut [u32; MAX_SEATS],
+) -> Advanced
+    requires { ⌜ Whole (m.deskOf desk (now seats) (now words) (now slots)) ⌝ }
+    ensures { λ r. ⌜ (r .no ≡ m.advanceAnswer (m.deskOf desk (now (seats .entry)) (now (words .entry)) (now (slots .entry))))
+        × (r .report ≡ calls.advanceReport (m.deskOf desk (now (seats .entry)) (now (words .entry)) (now (slots .entry))))
+        × (m.deskOf (r .desk) (now (seats .exit)) (now (words .entry)) (now (slots .exit)) ≡ calls.advanceOf (m.deskOf desk (now (seats .entry)) (now (words .entry)) (now (slots .entry))))
+        × (now (served .exit) ≡ calls.advanceServed (m.deskOf desk (now (seats .entry)) (now (words .entry)) (now (slots .entry))) (now (served .entry)))
+        × (now (statuses .exit) ≡ calls.advanceStatuses (m.deskOf desk (now (seats .entry)) (now (words .entry)) (now (slots .entry))) (now (statuses .entry))) ⌝ }
+{
+    advance_into(seats, words, slots, desk, served, statuses)
 }
 
 pub fn current_frame(desk: DeskState) -> i32

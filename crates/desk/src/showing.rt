@@ -2,11 +2,14 @@
 use crate::DeskState;
 use crate::Logged;
 use crate::Shown;
-use crate::frames::lesser;
+use crate::line::FIELD_LENGTH;
 use crate::line::put_line;
 use console::Console;
 use frame_info::count_of;
 use frame_info::frame_of;
+use frame_info::lesser;
+use sync_layer::MAX_SEATS;
+use sync_layer::SERVED_FROM;
 use sync_layer::lowest_wrong;
 use sync_layer::seat_at;
 use sync_layer::slot_of;
@@ -15,6 +18,7 @@ ghost use mathlib.Core.Path.{_≡_};
 ghost use mathlib.Core.List.{[]};
 ghost use Prim.Native.Nat.{_+_, _-_, _*_, _≤_, _<_};
 ghost use lib.ListN.{length};
+ghost use Rattle.frame_info.specs.Frame.{lastCount};
 ghost use Rattle.console.specs.Step.{stepOf};
 ghost use Rattle.sync_layer.specs.Lists.{writeRow};
 ghost use Rattle.sync_layer.specs.Whole.{SlotRoom};
@@ -30,11 +34,11 @@ pub fn known_count(seats: &[u32], desk: DeskState) -> u32
 {
     let n = desk.seats as usize;
     let first = seat_at(seats, 0);
-    let mut least = first.added;
+    let mut least = first.last_added_count;
     let mut i: usize = 1;
     while i < n {
         let s = seat_at(seats, i);
-        least = lesser(least, s.added);
+        least = lesser(least, s.last_added_count);
         i += 1;
     }
     least
@@ -49,7 +53,7 @@ pub fn known(seats: &[u32], desk: DeskState) -> i32
 }
 
 fn right_up_to(seats: &[u32], desk: DeskState, frame: u32) -> bool
-    requires { ⌜ Seated desk (now seats) × (frame < 4294967295) ⌝ }
+    requires { ⌜ Seated desk (now seats) × (frame < lastCount) ⌝ }
     ensures { λ r. ⌜ r ≡ settled.rightUpTo (m.deskOf desk (now (seats .entry)) [] []) frame ⌝ }
 {
     let lowest = lowest_wrong(seats, desk.seats as usize);
@@ -95,7 +99,7 @@ pub fn put_words(slots: &[u32], desk: DeskState, frame: u32, out: &mut [u32])
     ensures { λ _. ⌜ now (out .exit) ≡ writeRow (desk .seats) (now (out .entry)) 0 (settled.shownWord (m.deskOf desk [] [] (now (slots .entry))) frame) ⌝ }
 {
     let n = desk.seats as usize;
-    let from = slot_of(desk.limit, frame) + 4;
+    let from = slot_of(desk.limit, frame) + SERVED_FROM;
     let mut i: usize = 0;
     while i < n {
         out[i] = slots[from + i];
@@ -108,15 +112,21 @@ pub fn shown_state(slots: &[u32], desk: DeskState, frame: u32) -> Console
     requires { ⌜ Ready desk × SlotRoom (now slots) ⌝ }
     ensures { λ r. ⌜ r ≡ settled.shownState stepOf (m.deskOf desk [] [] (now (slots .entry))) frame ⌝ }
 {
-    let from = slot_of(desk.limit, frame) + 4;
+    let from = slot_of(desk.limit, frame) + SERVED_FROM;
     let end = from + desk.seats as usize;
     let state = state_in(slots, desk.limit, frame);
     state.step(&slots[from..end])
 }
 
-// A settled frame's words and the console after it: 7, 21.
-pub fn show(slots: &[u32], seats: &[u32], desk: DeskState, frame: i32, out: &mut [u32]) -> Shown
-    requires { ⌜ Seated desk (now seats) × SlotRoom (now slots) × (desk .seats ≤ length (now out)) ⌝ }
+// A settled frame's words and the console after it: 7, 21. What is lent past the seats stays as it was.
+pub fn show(
+    slots: &[u32],
+    seats: &[u32],
+    desk: DeskState,
+    frame: i32,
+    out: &mut [u32; MAX_SEATS],
+) -> Shown
+    requires { ⌜ Seated desk (now seats) × SlotRoom (now slots) ⌝ }
     ensures { λ r. ⌜ (r ≡ calls.showSays (m.deskOf desk (now (seats .entry)) [] (now (slots .entry))) frame)
         × (now (out .exit) ≡ calls.showWords (m.deskOf desk (now (seats .entry)) [] (now (slots .entry))) frame (now (out .entry))) ⌝ }
 {
@@ -144,7 +154,7 @@ fn log_refusal(seats: &[u32], desk: DeskState, count: u32, room: usize) -> u32
     if no != 0 {
         return no;
     }
-    if room < 9 * (desk.seats as usize + 2) {
+    if room < FIELD_LENGTH * (desk.seats as usize + 2) {
         return frame_info::refusal::NO_ROOM_FOR_BYTES;
     }
     0
@@ -164,6 +174,6 @@ pub fn log(slots: &[u32], seats: &[u32], desk: DeskState, frame: i32, out: &mut 
     put_line(slots, desk, count - 1, out);
     Logged {
         no: 0,
-        count: 9 * (desk.seats + 2),
+        count: FIELD_LENGTH as u32 * (desk.seats + 2),
     }
 }

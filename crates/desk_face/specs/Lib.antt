@@ -1,1 +1,3 @@
+pub mod Face
 pub mod Lists
+pub mod Layers

@@ -46,17 +46,17 @@ abbrev pub layerWords : ℕ
 layerWords = 6
 
 abbrev pub layerNumbers : LayerState → List ℕ
-layerNumbers y = y .seats ∷ y .limit ∷ y .predictor ∷ y .current ∷ y .saved ∷ y .confirmed ∷ []
+layerNumbers y = y .«num_players» ∷ y .«max_prediction» ∷ y .predictor ∷ y .«current_frame» ∷ y .«last_saved_count» ∷ y .«last_confirmed_count» ∷ []
 
 unfoldable pub layerAt : List ℕ → LayerState
 layerAt l =
     record {
-      seats = getD l 0 0;
-      limit = getD l 1 0;
+      «num_players» = getD l 0 0;
+      «max_prediction» = getD l 1 0;
       predictor = getD l 2 0;
-      current = getD l 3 0;
-      saved = getD l 4 0;
-      confirmed = getD l 5 0;
+      «current_frame» = getD l 3 0;
+      «last_saved_count» = getD l 4 0;
+      «last_confirmed_count» = getD l 5 0;
     }
 
 unfoldable pub setLayer : List ℕ → LayerState → List ℕ

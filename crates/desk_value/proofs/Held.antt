@@ -12,6 +12,7 @@ use Rattle.frame_info.specs.Frame.{countOf}
 use Rattle.input_queue.specs.Ring.{queueLength}
 use Rattle.sync_layer.specs.Seats.{maxSeats, seatWords}
 use Rattle.sync_layer.specs.Slots.{maxLimit, slotWords}
+use Rattle.console.specs.declared.Console.{Console}
 use Rattle.desk.specs.declared.DeskState.{DeskState}
 use Rattle.desk.specs.declared.Opened.{Opened}
 use Rattle.desk.specs.declared.Taken.{Taken}
@@ -70,20 +71,32 @@ module _ (y : Desk) where
   unfolding held.settled
   held-settled t r l k d e g = λ i. record { report = (d ∙ e) i; desk = held.own (g i) }
 
-  pub held-advanced : (a : Advanced) (r : Report) (l k : List ℕ) → r ≡ a .report → a .no ≡ m.advanceAnswer (held.lent y)
-      → a .report ≡ calls.advanceReport (held.lent y) → m.deskOf (a .desk) l (y .words) k ≡ calls.advanceOf (held.lent y)
-      → record { no = a .no; report = r; desk = record { state = a .desk; seats = l; words = y .words; slots = k } } ≡ held.advanced y
+  pub held-advanced : (a : Advanced) (r : Report) (v u l k : List ℕ) → r ≡ a .report → a .no ≡ m.advanceAnswer (held.lent y)
+      → a .report ≡ calls.advanceReport (held.lent y) → v ≡ calls.advanceServed (held.lent y) held.blanks
+      → u ≡ calls.advanceStatuses (held.lent y) held.blanks → m.deskOf (a .desk) l (y .words) k ≡ calls.advanceOf (held.lent y)
+      → record { no = a .no; report = r; served = v; statuses = u; desk = record { state = a .desk; seats = l; words = y .words; slots = k } } ≡ held.advanced y
   unfolding held.advanced
-  held-advanced a r l k d n e g = λ i. record { no = n i; report = (d ∙ e) i; desk = held.own (g i) }
+  held-advanced a r v u l k d n e p q g =
+      λ i. record { no = n i; report = (d ∙ e) i; served = p i; statuses = q i; desk = held.own (g i) }
 
   module _ (f f′ : ℤ) (e : f′ ≡ f) where
-    pub held-shown : (a : Shown) → a ≡ calls.showSays (m.deskOf (y .state) (y .seats) [] (y .slots)) f′ → a ≡ calls.showSays (held.lent y) f
+    -- a show does not look at the words
+    show-says : (a : Shown) → a ≡ calls.showSays (m.deskOf (y .state) (y .seats) [] (y .slots)) f′ → a ≡ calls.showSays (held.lent y) f
     unfolding calls.showSays calls.showAnswer isSettled
-    held-shown a g = g ∙ ap (calls.showSays (held.lent y)) e
+    show-says a g = g ∙ ap (calls.showSays (held.lent y)) e
 
-    pub held-words : (l k : List ℕ) → k ≡ calls.showWords (m.deskOf (y .state) (y .seats) [] (y .slots)) f′ l → k ≡ calls.showWords (held.lent y) f l
+    show-words : (l k : List ℕ) → k ≡ calls.showWords (m.deskOf (y .state) (y .seats) [] (y .slots)) f′ l → k ≡ calls.showWords (held.lent y) f l
     unfolding calls.showWords calls.showAnswer isSettled
-    held-words l k g = g ∙ ap (λ x. calls.showWords (held.lent y) x l) e
+    show-words l k g = g ∙ ap (λ x. calls.showWords (held.lent y) x l) e
+
+    pub held-shown : (a : Shown) (c : Console) (k : List ℕ) → c ≡ a .console → a ≡ calls.showSays (m.deskOf (y .state) (y .seats) [] (y .slots)) f′
+        → k ≡ calls.showWords (m.deskOf (y .state) (y .seats) [] (y .slots)) f′ held.blanks
+        → record { no = a .no; words = k; console = c } ≡ held.shown y f
+    unfolding held.shown
+    held-shown a c k d g h =
+        let s = show-says a g in
+        let w = show-words held.blanks k h in
+        λ i. record { no = s i .no; words = w i; console = (d ∙ ap (λ (x : Shown). x .console) s) i }
 
     pub held-logged : (l : List ℕ) (a : Logged) → a ≡ calls.logSays (m.deskOf (y .state) (y .seats) [] (y .slots)) f′ l → a ≡ calls.logSays (held.lent y) f l
     unfolding calls.logSays calls.logAnswer calls.showAnswer isSettled
@@ -93,4 +106,4 @@ module _ (y : Desk) where
     unfolding calls.logBytes calls.logAnswer calls.showAnswer isSettled
     held-bytes l k g = g ∙ ap (λ x. calls.logBytes (held.lent y) x l) e
 
-pub ruleset holding = (held-opened, held-taken, held-settled, held-advanced, held-shown, held-words, held-logged, held-bytes)
+pub ruleset holding = (held-opened, held-taken, held-settled, held-advanced, held-shown, held-logged, held-bytes)

@@ -17,7 +17,7 @@ use Rattle.desk.proofs.Kept.{setup-whole, after-whole}
 use Rattle.desk_value.specs.declared.Desk.{Desk}
 use Rattle.desk_value.specs.Value as held
 
-zeros-room : (n : ℕ) → n ≤ length (replicate {A = ℕ} n 0)
+pub zeros-room : (n : ℕ) → n ≤ length (replicate {A = ℕ} n 0)
 zeros-room n = simp length-replicate (omega arith)
 
 -- the desk that a call hands back is the one that the lent call leaves, with our console's step and the desk's own predictor

@@ -17,6 +17,7 @@ use Rattle.desk_value.specs.declared.OpenedDesk.{OpenedDesk}
 use Rattle.desk_value.specs.declared.TakenDesk.{TakenDesk}
 use Rattle.desk_value.specs.declared.SettledDesk.{SettledDesk}
 use Rattle.desk_value.specs.declared.AdvancedDesk.{AdvancedDesk}
+use Rattle.desk_value.specs.declared.ShownDesk.{ShownDesk}
 
 -- the same desk with its lists lent, and a lent one that keeps its lists
 abbrev pub lent : Desk → m.Desk
@@ -27,6 +28,10 @@ own d = record { state = d .state; seats = d .seats; words = d .words; slots = d
 
 abbrev pub Whole : Desk → Type 0
 Whole y = bounds.Whole (lent y)
+
+-- one place for each seat, 0 where there is none
+abbrev pub blanks : List ℕ
+blanks = replicate maxSeats blank
 
 -- setup, on lists of zeros
 abbrev pub cleared : ℕ → ℕ → List ℕ → m.Setup
@@ -52,7 +57,17 @@ advanced y =
     record {
       no = m.advanceAnswer (lent y);
       report = calls.advanceReport (lent y);
+      served = calls.advanceServed (lent y) blanks;
+      statuses = calls.advanceStatuses (lent y) blanks;
       desk = own (calls.advanceOf (lent y));
+    }
+
+unfoldable pub shown : Desk → ℤ → ShownDesk
+shown y f =
+    record {
+      no = calls.showSays (lent y) f .no;
+      words = calls.showWords (lent y) f blanks;
+      console = calls.showSays (lent y) f .console;
     }
 
 -- the desk that a call hands back, and after any run of calls

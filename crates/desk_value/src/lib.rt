@@ -4,24 +4,14 @@ use console::Console;
 use desk::DeskState;
 use desk::Logged;
 use desk::Report;
-use desk::Shown;
-use input_queue::INPUT_QUEUE_LENGTH;
-use sync_layer::MAX_LIMIT;
+use frame_info::input_status::InputStatus;
 use sync_layer::MAX_SEATS;
-use sync_layer::SEAT_WORDS;
-use sync_layer::SLOT_WORDS;
+use sync_layer::SEATS_LENGTH;
+use sync_layer::SLOTS_LENGTH;
+use sync_layer::WORDS_LENGTH;
 ghost use mathlib.Core.Path.{_≡_};
-ghost use Prim.Native.Nat.{_≤_};
-ghost use lib.ListN.{length};
 ghost use Rattle.desk.specs.Calls as calls;
 ghost use Rattle.desk_value.specs.Value as held;
-
-// How many numbers each list has.
-pub const SEATS_LENGTH: usize = MAX_SEATS * SEAT_WORDS;
-
-pub const WORDS_LENGTH: usize = MAX_SEATS * INPUT_QUEUE_LENGTH;
-
-pub const SLOTS_LENGTH: usize = (MAX_LIMIT as usize + 1) * SLOT_WORDS;
 
 pub struct Desk {
     pub state: DeskState,
@@ -46,10 +36,20 @@ pub struct SettledDesk {
     pub desk: Desk,
 }
 
+// The words served and their statuses, seat by seat; 0 past the desk's seats, and where it refuses.
 pub struct AdvancedDesk {
     pub no: u32,
     pub report: Report,
+    pub served: [u32; MAX_SEATS],
+    pub statuses: [InputStatus; MAX_SEATS],
     pub desk: Desk,
+}
+
+// The words shown, seat by seat; 0 past the desk's seats, and where it refuses.
+pub struct ShownDesk {
+    pub no: u32,
+    pub words: [u32; MAX_SEATS],
+    pub console: Console,
 }
 
 impl Desk {
@@ -117,23 +117,32 @@ impl Desk {
     }
 
     // Serves one frame: 6, 5, changing nothing; else settles, saves, requests all seats, steps, and
-    // goes one frame on. Lends back each seat's word and its standing, 0 confirmed or 1 predicted.
-    pub fn advance(self, served: &mut [u32], standings: &mut [u32]) -> AdvancedDesk
-        requires { ⌜ held.Whole self × (self .state .seats ≤ length (now served)) × (self .state .seats ≤ length (now standings)) ⌝ }
-        ensures { λ r. ⌜ (r ≡ held.advanced self)
-            × (now (served .exit) ≡ calls.advanceServed (held.lent self) (now (served .entry)))
-            × (now (standings .exit) ≡ calls.advanceStandings (held.lent self) (now (standings .entry))) ⌝ }
+    // goes one frame on.
+    pub fn advance(self) -> AdvancedDesk
+        requires { ⌜ held.Whole self ⌝ }
+        ensures { λ r. ⌜ r ≡ held.advanced self ⌝ }
     {
         let s = self.state;
         let mut seats = self.seats;
         let words = self.words;
         let mut slots = self.slots;
-        let a = desk::advance(&mut seats, &words, &mut slots, s, served, standings);
+        let mut served = [0u32; MAX_SEATS];
+        let mut statuses = [0u32; MAX_SEATS];
+        let a = desk::advance(
+            &mut seats,
+            &words,
+            &mut slots,
+            s,
+            &mut served,
+            &mut statuses,
+        );
         let state = a.desk;
         let report = a.report;
         AdvancedDesk {
             no: a.no,
             report,
+            served,
+            statuses,
             desk: Desk {
                 state,
                 seats,
@@ -144,15 +153,21 @@ impl Desk {
     }
 
     // A settled frame's words and the console after it: 7, 21.
-    pub fn show(self, frame: i32, out: &mut [u32]) -> Shown
-        requires { ⌜ held.Whole self × (self .state .seats ≤ length (now out)) ⌝ }
-        ensures { λ r. ⌜ (r ≡ calls.showSays (held.lent self) frame)
-            × (now (out .exit) ≡ calls.showWords (held.lent self) frame (now (out .entry))) ⌝ }
+    pub fn show(self, frame: i32) -> ShownDesk
+        requires { ⌜ held.Whole self ⌝ }
+        ensures { λ r. ⌜ r ≡ held.shown self frame ⌝ }
     {
         let s = self.state;
         let seats = self.seats;
         let slots = self.slots;
-        desk::show(&slots, &seats, s, frame, out)
+        let mut words = [0u32; MAX_SEATS];
+        let shown = desk::show(&slots, &seats, s, frame, &mut words);
+        let console = shown.console;
+        ShownDesk {
+            no: shown.no,
+            words,
+            console,
+        }
     }
 
     // A settled frame's log line: 7, 21, 20. Answers how many bytes it takes; those past it stay.

@@ -5,7 +5,6 @@
 // the desk does not allow, and the bench compares how the night ends with the lent desk and ggrs.
 use console::Console;
 use desk_value::Desk;
-use sync_layer::MAX_SEATS;
 ghost use mathlib.Core.Path.{_≡_};
 ghost use Prim.Native.Nat.{_*_, _≤_, _<_};
 ghost use lib.ListN.{length};
@@ -81,11 +80,10 @@ fn serve(desk: Desk, said: &mut [u32]) -> Desk
     requires { ⌜ held.Whole desk × (7 ≤ length (now said)) ⌝ }
     ensures { λ r. ⌜ held.Whole r × (length (now (said .exit)) ≡ length (now (said .entry))) ⌝ }
 {
-    let mut served = [0u32; MAX_SEATS];
-    let mut standings = [0u32; MAX_SEATS];
-    let a = desk.advance(&mut served, &mut standings);
+    let a = desk.advance();
     mark(said, REFUSED, a.no);
     let report = a.report;
+    let served = a.served;
     count(said, report.count, served[0], served[1]);
     a.desk
 }

@@ -219,24 +219,3 @@ signed-plain [] n r h b e q = absurd (h refl)
 signed-plain (a ∷ s) n r h b e q = simp (ne-eqb a 45 b) (q ∙ ap (λ (m : Number). andThen m (λ k. patternOf (pos k))) e)
 
 pub ruleset fields = (decimal-is, word-short, word-long, signed-none, signed-minus, signed-plain)
-
--- the i32 of a pattern in the upper half
-pub minus-one : (m : ℕ) → negsuc 0 -ℤ pos m ≡ negsuc m
-minus-one zero = refl
-minus-one (suc m) = let e : suc (0 + m) ≡ suc m = omega arith in rw e
-
-module _ (bits : ℕ) (h : 2147483648 ≤ bits) (f : bits < 2 ^ 32) where
-  pub upper-is : negsuc 0 -ℤ toZ w32 (4294967295 - bits) ≡ negsuc (4294967295 - bits)
-  upper-is =
-      let e : 4294967295 - bits < 2 ^ 31 = omega arith in
-      rw (toZ-pos w32 e) (minus-one (4294967295 - bits))
-
-  pub upper-fits : SFits w32 (negsuc 0 -ℤ toZ w32 (4294967295 - bits))
-  upper-fits = rw upper-is (record { sfits = omega arith })
-
-  pub upper-signed : toZ w32 (ofZ w32 (negsuc 0 -ℤ toZ w32 (4294967295 - bits))) ≡ toZ w32 bits
-  upper-signed =
-      let e : 4294967296 - suc bits ≡ 4294967295 - bits = omega arith in
-      toZ-ofZ upper-fits ∙ upper-is ∙ simp (le-ltb bits (2 ^ 31) h, e)
-
-pub ruleset patterned = (upper-fits, upper-signed)

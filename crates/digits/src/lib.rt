@@ -121,17 +121,6 @@ fn negative(n: Number) -> Number
     }
 }
 
-// The i32 of a pattern.
-pub fn signed_of(bits: u32) -> i32
-    ensures { λ r. ⌜ r ≡ toZ w32 bits ⌝ }
-{
-    if bits < 2147483648 {
-        bits as i32
-    } else {
-        -1 - ((4294967295 - bits) as i32)
-    }
-}
-
 fn digit_byte(d: u32) -> u8
     requires { ⌜ d < 16 ⌝ }
     ensures { λ r. ⌜ r ≡ digitByte d ⌝ }

@@ -1,9 +1,8 @@
--- Words: the jog below 0, and the predictors, all three at once. Assumes nothing.
-use Prim.Native.Nat.{ℕ, zero, suc, _-_, _%_}
+-- The predictors, all three at once. Assumes nothing.
+use Prim.Native.Nat.{ℕ, _-_, _%_}
 use native.Mathlib.Omega.{arith}
-use mathlib.Core.Path.{_≡_, refl, ap}
+use mathlib.Core.Path.{_≡_}
 use mathlib.Core.Logic.{⊎-elim}
-use lib.IntN.{ℤ, pos, negsuc, _-ℤ_}
 use Rattle.frame_info.specs.Word.{predicted, blank}
 use Rattle.frame_info.proofs.Split.{split-eqb}
 
@@ -24,8 +23,3 @@ predicted-twice p w =
     (λ a. simp (a .1))
     (λ a. ⊎-elim (λ b. simp (a .1, b .1)) (λ b. simp (a .1, b .1) (omega arith)) (split-eqb p 1))
     (split-eqb p 0)
-
--- n less than -1
-pub down : (n : ℕ) → negsuc 0 -ℤ pos n ≡ negsuc n
-down zero = refl
-down (suc n) = ap (λ (m : ℕ). negsuc (suc m)) (omega arith)

@@ -2,3 +2,4 @@ pub mod Choice
 pub mod Frame
 pub mod Word
 pub mod Refusal
+pub mod Status

@@ -21,6 +21,6 @@ jogOf w = pick (ltb (w % 256) 128) (pos (w % 256)) (negsuc (255 - w % 256))
 abbrev pub boxOf : ℕ → ℕ
 boxOf w = w / 256 % 2
 
--- predictor 0 repeats the word, 1 is always blank, 2 repeats it with the jog cleared
+-- predictor 0 repeats the word, 1 is always blank, 2 repeats it with the jog cleared; so does any other number, which setups refuse
 unfoldable pub predicted : ℕ → ℕ → ℕ
 predicted p w = pick (eqb p 0) w (pick (eqb p 1) blank (w - w % 256))

@@ -3,12 +3,16 @@
 // A frame is an i32 at every public edge, and -1 stands for none. Inside, a frame is a count: 0 for
 // none, else the frame + 1, so that all arithmetic below the edge is unsigned. `count_of` and
 // `frame_of` are the only way across.
+pub mod input_status;
 pub mod refusal;
 
 ghost use mathlib.Core.Path.{_≡_};
+ghost use Prim.Native.Nat.{_-_, min, max};
 ghost use lib.Dec.{eqb};
+ghost use mir.Syntax.{w32};
+ghost use mir.Val.{toZ};
 ghost use Rattle.frame_info.specs.Frame.{countOf, frameOf};
-ghost use Rattle.frame_info.specs.Word.{jogOf, boxOf, predicted, playerInput, blank};
+ghost use Rattle.frame_info.specs.Word.{boxOf, predicted, playerInput, blank};
 
 // No frame.
 pub const NULL_FRAME: i32 = -1;
@@ -16,7 +20,7 @@ pub const NULL_FRAME: i32 = -1;
 // The last frame of a reel, and its count.
 pub const LAST_FRAME: i32 = 1_000_000_000;
 
-pub const LAST_COUNT: u32 = 1_000_000_001;
+pub const LAST_COUNT: u32 = LAST_FRAME as u32 + 1;
 
 // The largest delay, and the number of predictors.
 pub const MAX_DELAY: u32 = 60;
@@ -25,6 +29,11 @@ pub const PREDICTORS: u32 = 3;
 
 // The word of a hand that does nothing.
 pub const BLANK: u32 = 0;
+
+// The first pattern of 32 bits that stands for a number below 0, and the last one.
+const SIGN_BIT: u32 = 2_147_483_648;
+
+const ALL_ONES: u32 = 4_294_967_295;
 
 // The frame as a count: 0 for one below 0.
 pub fn count_of(frame: i32) -> u32
@@ -38,12 +47,42 @@ pub fn frame_of(count: u32) -> i32
     ensures { λ r. ⌜ r ≡ frameOf count ⌝ }
 {
     if count == 0 {
-        return -1;
+        return NULL_FRAME;
     }
-    if count > 2147483648 {
-        return -1;
+    if count > SIGN_BIT {
+        return NULL_FRAME;
     }
     (count - 1) as i32
+}
+
+// The i32 of a pattern of 32 bits.
+pub fn signed_of(bits: u32) -> i32
+    ensures { λ r. ⌜ r ≡ toZ w32 bits ⌝ }
+{
+    if bits < SIGN_BIT {
+        bits as i32
+    } else {
+        -1 - ((ALL_ONES - bits) as i32)
+    }
+}
+
+// The frame of a count, and the place before a place: 0 for 0.
+pub fn one_less(count: u32) -> u32
+    ensures { λ r. ⌜ r ≡ count - 1 ⌝ }
+{
+    if count == 0 { 0 } else { count - 1 }
+}
+
+pub fn lesser(a: u32, b: u32) -> u32
+    ensures { λ r. ⌜ r ≡ min a b ⌝ }
+{
+    if a < b { a } else { b }
+}
+
+pub fn greater(a: u32, b: u32) -> u32
+    ensures { λ r. ⌜ r ≡ max a b ⌝ }
+{
+    if a < b { b } else { a }
 }
 
 // One hand's word for one frame.
@@ -62,7 +101,10 @@ impl PlayerInput {
     pub fn blank_input(frame: i32) -> PlayerInput
         ensures { λ r. ⌜ r ≡ playerInput frame blank ⌝ }
     {
-        PlayerInput { frame, input: 0 }
+        PlayerInput {
+            frame,
+            input: BLANK,
+        }
     }
 
     // Whether the words are the same. The frames do not count.
@@ -73,18 +115,6 @@ impl PlayerInput {
     }
 }
 
-// The jog, from -128 to 127.
-pub fn jog_of(word: u32) -> i32
-    ensures { λ r. ⌜ r ≡ jogOf word ⌝ }
-{
-    let low = word % 256;
-    if low < 128 {
-        low as i32
-    } else {
-        -1 - ((255 - low) as i32)
-    }
-}
-
 // The box: 1 for variable density.
 pub fn box_of(word: u32) -> u32
     ensures { λ r. ⌜ r ≡ boxOf word ⌝ }
@@ -92,7 +122,8 @@ pub fn box_of(word: u32) -> u32
     word / 256 % 2
 }
 
-// The guess that a predictor makes from the newest word.
+// The guess that a predictor makes from the newest word. A number that is no predictor's is taken
+// for 2, the jog cleared; setups refuse it.
 pub fn predict(predictor: u32, word: u32) -> u32
     ensures { λ r. ⌜ r ≡ predicted predictor word ⌝ }
 {
@@ -100,7 +131,7 @@ pub fn predict(predictor: u32, word: u32) -> u32
         return word;
     }
     if predictor == 1 {
-        return 0;
+        return BLANK;
     }
     word - word % 256
 }

@@ -15,7 +15,7 @@ use Rattle.frame_info.specs.Word.{playerInput, predicted}
 use Rattle.frame_info.specs.declared.PlayerInput.{PlayerInput}
 use Rattle.input_queue.specs.declared.QueueState.{QueueState}
 use Rattle.input_queue.specs.declared.Asked.{Asked}
-use Rattle.input_queue.specs.declared.Delayed.{Delayed}
+use Rattle.input_queue.specs.declared.Announced.{Announced}
 use Rattle.input_queue.specs.Queue as queue
 use Rattle.input_queue.specs.Ring.{wordAt, addWords}
 use Rattle.input_queue.specs.Calls as calls
@@ -26,7 +26,7 @@ module _ (s : QueueState) (c n : ℕ) where
   unfolding calls.addRefusal
   add-some e z = ⊎-elim (λ a. omega (arith, simp (a .1) at (sym e ∙ z))) (λ a. omega (arith, a .0)) (split-eqb c 0)
 
-  pub add-low : n ≡ calls.addRefusal s c → n ≡ 0 → c - 1 ≤ 1000000000
+  pub add-low : n ≡ calls.addRefusal s c → n ≡ 0 → c - 1 < lastCount
   unfolding calls.addRefusal
   add-low e z =
       ⊎-elim
@@ -96,25 +96,25 @@ module _ (s : QueueState) (f f′ : ℤ) (c : ℕ) (e : f′ ≡ f) (d : c ≡ c
 
 -- Delay change
 module _ (l : List ℕ) (base : ℕ) (s : QueueState) (d : ℕ) where
-  pub delay-refused : (r : Delayed) → 60 < d → r ≡ calls.unannounced 1 s → r ≡ calls.delayedTo l base s d
+  pub delay-refused : (r : Announced) → 60 < d → r ≡ calls.unannounced 1 s → r ≡ calls.delayedTo l base s d
   unfolding calls.delayedTo
   delay-refused r a e = simp (lt-ltb _ _ a) e
 
   module _ (q : QueueState) (t : Bool) (a : d ≤ 60) (e : q ≡ queue.delayed s d) (g : t ≡ calls.announces s d) where
-    pub delay-quiet : (r : Delayed) → not t ≡ true → r ≡ calls.unannounced 0 q → r ≡ calls.delayedTo l base s d
+    pub delay-quiet : (r : Announced) → not t ≡ true → r ≡ calls.unannounced 0 q → r ≡ calls.delayedTo l base s d
     unfolding calls.delayedTo
     delay-quiet r h k = let o : t ≡ false = not-true t h in rw (← g, ← e, o) (simp (le-ltb _ _ a) k)
 
-    pub delay-told : (z z′ : ℤ) (w : ℕ) → not t ≡ false → z′ ≡ z → z ≡ frameOf (s .added + 1) → w ≡ queue.newest (wordAt l base) (s .added)
-        → record { no = 0; first = z′; count = d - s .delay; word = w; state = q } ≡ calls.delayedTo l base s d
+    pub delay-told : (z z′ : ℤ) (w : ℕ) → not t ≡ false → z′ ≡ z → z ≡ frameOf (s .«last_added_count» + 1) → w ≡ queue.newest (wordAt l base) (s .«last_added_count»)
+        → record { no = 0; first = z′; count = d - s .«frame_delay»; word = w; state = q } ≡ calls.delayedTo l base s d
     unfolding calls.delayedTo
     delay-told z z′ w h j k o = let y : t ≡ true = not-false t h in rw (j, k, o, ← g, ← e, y) (simp (le-ltb _ _ a))
 
-pub rise : (s : QueueState) (d : ℕ) (t : Bool) → t ≡ calls.announces s d → not t ≡ false → s .delay ≤ d
+pub rise : (s : QueueState) (d : ℕ) (t : Bool) → t ≡ calls.announces s d → not t ≡ false → s .«frame_delay» ≤ d
 rise s d t e h =
     ⊎-elim
     (λ a. omega arith)
     (λ a. absurd (true≢false (sym (not-false t h) ∙ e ∙ simp (a .1))))
-    (split-ltb (s .delay) d)
+    (split-ltb (s .«frame_delay») d)
 
 pub ruleset answers = (add-some, add-low, input-some, found-some, add-refused, add-untouched, add-done, add-written, serve-refused, serve-done, find-refused, find-done, discard-refused, discard-done, delay-refused, delay-quiet, delay-told, rise)

@@ -9,14 +9,14 @@ use mathlib.Core.List.{List, [], _∷_}
 use lib.ListN.{length, set, length-set}
 use lib.Dec.{ltb, leb, eqb}
 use lib.IntN.{ℤ}
-use borrow.Author.Tests.{ltb-false, leb-true}
+use borrow.Author.Tests.{ltb-false}
 use Rattle.frame_info.proofs.Split.{split-eqb, split-ltb, split-leb, split-bool}
 use Rattle.frame_info.specs.Frame.{countOf, lastCount}
 use Rattle.frame_info.specs.Word.{predicted}
 use Rattle.frame_info.specs.declared.PlayerInput.{PlayerInput}
 use Rattle.input_queue.specs.declared.QueueState.{QueueState}
 use Rattle.input_queue.specs.Queue.{freshState, newest, put, fill, used, tossed, add, asked, predictingAsked, reset, capped, oldestAfter, discard, delayed}
-use Rattle.input_queue.specs.Ring.{wordAt, putWord, fillWords, addWords}
+use Rattle.input_queue.specs.Ring.{queueLength, wordAt, putWord, fillWords, addWords}
 use Rattle.input_queue.specs.Calls as calls
 use Rattle.input_queue.specs.Whole.{Sane, Whole}
 use Rattle.input_queue.specs.Runs as runs
@@ -42,43 +42,43 @@ opened-sane p d =
 
 -- the fields that storing leaves alone
 record Same (s t : QueueState) : Type 0 where
-  delay : t .delay ≡ s .delay
-  user : t .user ≡ s .user
+  «frame_delay» : t .«frame_delay» ≡ s .«frame_delay»
+  «last_user_count» : t .«last_user_count» ≡ s .«last_user_count»
   oldest : t .oldest ≡ s .oldest
 
 put-same : (s : QueueState) (w : ℕ) → Same s (put s w)
 unfolding put
-put-same s w = record { delay = refl; user = refl; oldest = refl }
+put-same s w = record { «frame_delay» = refl; «last_user_count» = refl; oldest = refl }
 
 fill-same : (n : ℕ) (s : QueueState) (w : ℕ) → Same s (fill n s w)
 unfolding fill
-fill-same zero s w = record { delay = refl; user = refl; oldest = refl }
+fill-same zero s w = record { «frame_delay» = refl; «last_user_count» = refl; oldest = refl }
 fill-same (suc n) s w =
     let a = fill-same n s w in
     let b = put-same (fill n s w) w in
-    record { delay = b .delay ∙ a .delay; user = b .user ∙ a .user; oldest = b .oldest ∙ a .oldest }
+    record { «frame_delay» = b .«frame_delay» ∙ a .«frame_delay»; «last_user_count» = b .«last_user_count» ∙ a .«last_user_count»; oldest = b .oldest ∙ a .oldest }
 
 -- An input with room
-pub add-sane : (at : ℕ → ℕ) (s : QueueState) (f w : ℕ) → Sane s → f ≤ 1000000000 → (f + s .delay < s .added) ⊎ (f + s .delay < s .oldest + 128)
+pub add-sane : (at : ℕ → ℕ) (s : QueueState) (f w : ℕ) → Sane s → f < lastCount → (f + s .«frame_delay» < s .«last_added_count») ⊎ (f + s .«frame_delay» < s .oldest + queueLength)
     → Sane (add at s f w)
 unfolding add
-add-sane at s f w h g room = ⊎-elim thrown stored (split-ltb (f + s .delay) (s .added))
+add-sane at s f w h g room = ⊎-elim thrown stored (split-ltb (f + s .«frame_delay») (s .«last_added_count»))
   where
-    thrown : (f + s .delay < s .added) × (ltb (f + s .delay) (s .added) ≡ true) → Sane (add at s f w)
+    thrown : (f + s .«frame_delay» < s .«last_added_count») × (ltb (f + s .«frame_delay») (s .«last_added_count») ≡ true) → Sane (add at s f w)
     thrown a =
         simp (a .1)
         (record { late = h .late; users = omega arith; few = h .few; kept = h .kept; ring = h .ring; ahead = h .ahead })
 
-    stored : (s .added ≤ f + s .delay) × (ltb (f + s .delay) (s .added) ≡ false) → Sane (add at s f w)
+    stored : (s .«last_added_count» ≤ f + s .«frame_delay») × (ltb (f + s .«frame_delay») (s .«last_added_count») ≡ false) → Sane (add at s f w)
     stored a =
-        let c = newest at (s .added) in
-        let n = f + s .delay - s .added in
+        let c = newest at (s .«last_added_count») in
+        let n = f + s .«frame_delay» - s .«last_added_count» in
         let t = fill n (used s f) c in
         let k = fill-same n (used s f) c in
         let j = put-same t w in
         let e = fill-added n (used s f) c in
         let i = put-added t w in
-        let r : f + s .delay < s .oldest + 128 = ⊎-elim (λ x. omega arith) (λ x. x) room in
+        let r : f + s .«frame_delay» < s .oldest + queueLength = ⊎-elim (λ x. omega arith) (λ x. x) room in
         simp (a .1)
         (record {
           late = omega arith;
@@ -89,8 +89,16 @@ add-sane at s f w h g room = ⊎-elim thrown stored (split-ltb (f + s .delay) (s
           ahead = put-ahead t w (fill-ahead n (used s f) c (h .ahead));
         })
 
--- what is not refused has room
-add-room : (s : QueueState) (c : ℕ) → calls.addRefusal s c ≡ 0 → (c - 1 + s .delay < s .added) ⊎ (c - 1 + s .delay < s .oldest + 128)
+-- what does not overfill a queue is tossed, or has room
+pub not-over : (s : QueueState) (f : ℕ) → calls.overfull s f ≡ false → (f + s .«frame_delay» < s .«last_added_count») ⊎ (f + s .«frame_delay» < s .oldest + queueLength)
+not-over s f o =
+    ⊎-elim
+    (λ a. inl (a .0))
+    (λ a. inr (omega (arith, ltb-false queueLength (f + s .«frame_delay» + 1 - s .oldest) (simp (a .1) at o))))
+    (split-ltb (f + s .«frame_delay») (s .«last_added_count»))
+
+-- and so is or has what is not refused
+add-room : (s : QueueState) (c : ℕ) → calls.addRefusal s c ≡ 0 → (c - 1 + s .«frame_delay» < s .«last_added_count») ⊎ (c - 1 + s .«frame_delay» < s .oldest + queueLength)
 unfolding calls.addRefusal
 add-room s c z =
     ⊎-elim
@@ -99,29 +107,22 @@ add-room s c z =
     (λ b. absurd (omega (arith, simp (a .1, b .1) at z)))
     (λ b. ⊎-elim
     (λ d. absurd (omega (arith, simp (a .1, b .1, d) at z)))
-    (λ d. ⊎-elim (λ e. absurd (omega (arith, simp (a .1, b .1, d, e) at z))) (λ e. fits (a .0) e) (split-bool (calls.overfull s c)))
+    (λ d. ⊎-elim (λ e. absurd (omega (arith, simp (a .1, b .1, d, e) at z))) (not-over s (c - 1)) (split-bool (calls.overfull s (c - 1))))
     (split-bool (calls.outOfTurn s c)))
     (split-ltb lastCount c))
     (split-eqb c 0)
-  where
-    fits : (c ≡ 0 → ⊥) → calls.overfull s c ≡ false → (c - 1 + s .delay < s .added) ⊎ (c - 1 + s .delay < s .oldest + 128)
-    fits n o =
-        ⊎-elim
-        (λ a. inl (omega (arith, n)))
-        (λ a. inr (omega (arith, n, ltb-false (s .oldest + 128) (c + s .delay) (simp (a .1) at o))))
-        (split-leb (c + s .delay) (s .added))
 
 pub asked-sane : (p at : ℕ → ℕ) (s : QueueState) (f : ℕ) → Sane s → Sane (asked p at s f)
 unfolding asked
 asked-sane p at s f h =
     record { late = h .late; users = h .users; few = h .few; kept = h .kept; ring = h .ring; ahead = within }
   where
-    within : predictingAsked s f ≤ s .added + 1
+    within : predictingAsked s f ≤ s .«last_added_count» + 1
     within =
         ⊎-elim
-        (λ a. ⊎-elim (λ b. simp (a .1, b .1) (omega arith)) (λ b. simp (a .1, b .1) (omega arith)) (split-ltb f (s .added)))
+        (λ a. ⊎-elim (λ b. simp (a .1, b .1) (omega arith)) (λ b. simp (a .1, b .1) (omega arith)) (split-ltb f (s .«last_added_count»)))
         (λ a. simp (a .1) (h .ahead))
-        (split-eqb (s .predicting) 0)
+        (split-eqb (s .«prediction_count») 0)
 
 pub discard-sane : (s : QueueState) (f : ℕ) → Sane s → Sane (discard s f)
 unfolding discard
@@ -129,12 +130,8 @@ discard-sane s f h =
     let o = within (capped s f) in
     record { late = h .late; users = h .users; few = h .few; kept = o .0; ring = o .1; ahead = h .ahead }
   where
-    within : (g : ℕ) → (oldestAfter s g ≤ s .added) × (s .added ≤ oldestAfter s g + 128)
-    within g =
-        ⊎-elim
-        (λ a. ⊎-elim (λ b. simp (a .1, b .1) (omega arith)) (λ b. simp (a .1, b .1) (omega arith)) (split-eqb (s .added) 0))
-        (λ a. ⊎-elim (λ b. simp (a .1, b .1) (omega arith)) (λ b. simp (a .1, b .1) (omega arith)) (split-ltb (s .oldest) g))
-        (split-leb (s .added) (g + 1))
+    within : (g : ℕ) → (oldestAfter s g ≤ s .«last_added_count») × (s .«last_added_count» ≤ oldestAfter s g + queueLength)
+    within g = (omega (arith, h .kept), omega (arith, h .ring))
 
 pub reset-sane : (s : QueueState) → Sane s → Sane (reset s)
 unfolding reset
@@ -157,8 +154,8 @@ unfolding addWords
 add-long l base s f w =
     ⊎-elim
     (λ a. simp (a .1))
-    (λ a. simp (a .1, length-set) (fill-long (f + s .delay - s .added) l base (s .added) (newest (wordAt l base) (s .added))))
-    (split-ltb (f + s .delay) (s .added))
+    (λ a. simp (a .1, length-set) (fill-long (f + s .«frame_delay» - s .«last_added_count») l base (s .«last_added_count») (newest (wordAt l base) (s .«last_added_count»))))
+    (split-ltb (f + s .«frame_delay») (s .«last_added_count»))
 
 module _ (l : List ℕ) (base : ℕ) (s : QueueState) (h : Whole l base s) where
   pub add-whole : (i : PlayerInput) → Whole (calls.inputWords l base s i) base (calls.addInput l base s i .state)

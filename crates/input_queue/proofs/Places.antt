@@ -82,44 +82,44 @@ stands-stored l base h k n w p s =
 stored-long : (h : List ℕ) (k n w : ℕ) → length h ≤ k → length (h ++ replicate (k - length h) n ++ (w ∷ [])) ≡ k + 1
 stored-long h k n w p = simp (length-append, length-replicate) (omega arith)
 
-module _ (l : List ℕ) (base : ℕ) (h : List ℕ) (s : QueueState) (f w : ℕ) (c : s .added ≡ length h) where
-  stands-add : Stands l base h → Stands (addWords l base s f w) base (placed h (f + s .delay) w)
+module _ (l : List ℕ) (base : ℕ) (h : List ℕ) (s : QueueState) (f w : ℕ) (c : s .«last_added_count» ≡ length h) where
+  stands-add : Stands l base h → Stands (addWords l base s f w) base (placed h (f + s .«frame_delay») w)
   unfolding addWords placed
   stands-add k =
       ⊎-elim
       (λ a. rw c (simp (a .1) k))
       (λ a. rw c (simp (a .1)
-      (rw (newest-same l base h k) (stands-stored l base h (f + s .delay) (newest (λ g. getD h g 0) (length h)) w (a .0) k))))
-      (split-ltb (f + s .delay) (length h))
+      (rw (newest-same l base h k) (stands-stored l base h (f + s .«frame_delay») (newest (λ g. getD h g 0) (length h)) w (a .0) k))))
+      (split-ltb (f + s .«frame_delay») (length h))
 
-  count-add : (at : ℕ → ℕ) → add at s f w .added ≡ length (placed h (f + s .delay) w)
+  count-add : (at : ℕ → ℕ) → add at s f w .«last_added_count» ≡ length (placed h (f + s .«frame_delay») w)
   unfolding add placed
   count-add at =
       ⊎-elim
       (λ a. rw c (simp (a .1)))
       (λ a.
-      let b : ltb (f + s .delay) (s .added) ≡ false = rw c (a .1) in
-      let e = fill-added (f + s .delay - s .added) (used s f) (newest at (s .added)) in
-      let g = put-added (fill (f + s .delay - s .added) (used s f) (newest at (s .added))) w in
+      let b : ltb (f + s .«frame_delay») (s .«last_added_count») ≡ false = rw c (a .1) in
+      let e = fill-added (f + s .«frame_delay» - s .«last_added_count») (used s f) (newest at (s .«last_added_count»)) in
+      let g = put-added (fill (f + s .«frame_delay» - s .«last_added_count») (used s f) (newest at (s .«last_added_count»))) w in
       simp (b, a .1)
-      (rw (stored-long h (f + s .delay) (newest (λ g. getD h g 0) (length h)) w (a .0)) (omega (arith, e, g, a .0))))
-      (split-ltb (f + s .delay) (length h))
+      (rw (stored-long h (f + s .«frame_delay») (newest (λ g. getD h g 0) (length h)) w (a .0)) (omega (arith, e, g, a .0))))
+      (split-ltb (f + s .«frame_delay») (length h))
 
 -- the other calls store nothing
-served-added : (l : List ℕ) (base : ℕ) (s : QueueState) (p : ℕ) (f : ℤ) → calls.served l base s p f .state .added ≡ s .added
+served-added : (l : List ℕ) (base : ℕ) (s : QueueState) (p : ℕ) (f : ℤ) → calls.served l base s p f .state .«last_added_count» ≡ s .«last_added_count»
 unfolding calls.served asked
 served-added l base s p f =
     ⊎-elim (λ a. simp (a .1)) (λ a. simp (a .1)) (split-eqb (calls.inputRefusal s (countOf f)) 0)
 
-discarded-added : (s : QueueState) (f : ℤ) → calls.discarded s f .state .added ≡ s .added
+discarded-added : (s : QueueState) (f : ℤ) → calls.discarded s f .state .«last_added_count» ≡ s .«last_added_count»
 unfolding calls.discarded discard
 discarded-added s f = ⊎-elim (λ a. simp (a .1)) (λ a. simp (a .1)) (split-eqb (countOf f) 0)
 
-reset-added : (s : QueueState) → reset s .added ≡ s .added
+reset-added : (s : QueueState) → reset s .«last_added_count» ≡ s .«last_added_count»
 unfolding reset
 reset-added s = refl
 
-delayed-added : (l : List ℕ) (base : ℕ) (s : QueueState) (d : ℕ) → calls.delayedTo l base s d .state .added ≡ s .added
+delayed-added : (l : List ℕ) (base : ℕ) (s : QueueState) (d : ℕ) → calls.delayedTo l base s d .state .«last_added_count» ≡ s .«last_added_count»
 unfolding calls.delayedTo delayed
 delayed-added l base s d =
     ⊎-elim
@@ -127,7 +127,7 @@ delayed-added l base s d =
     (λ a. ⊎-elim (λ b. simp (a .1, b)) (λ b. simp (a .1, b)) (split-bool (calls.announces s d)))
     (split-ltb 60 d)
 
-still-holds : (base : ℕ) (q : Queue) (h : List ℕ) (s : QueueState) → s .added ≡ q .state .added → Holds base q h → Holds base (record { state = s; words = q .words }) h
+still-holds : (base : ℕ) (q : Queue) (h : List ℕ) (s : QueueState) → s .«last_added_count» ≡ q .state .«last_added_count» → Holds base q h → Holds base (record { state = s; words = q .words }) h
 still-holds base q h s e b = record { count = e ∙ b .count; newest-held = b .newest-held }
 
 -- an input
@@ -143,10 +143,10 @@ add-holds base q h i a b =
     g : ℕ
     g = countOf (i .frame) - 1
 
-    stands : Stands (addWords (q .words) base (q .state) g (i .input)) base (placed h (g + q .state .delay) (i .input))
+    stands : Stands (addWords (q .words) base (q .state) g (i .input)) base (placed h (g + q .state .«frame_delay») (i .input))
     stands = stands-add (q .words) base h (q .state) g (i .input) (b .count) (record { room = a .room; at = b .newest-held })
 
-opened-added : (p d : ℕ) → calls.opened p d .state .added ≡ 0
+opened-added : (p d : ℕ) → calls.opened p d .state .«last_added_count» ≡ 0
 unfolding calls.opened
 opened-added p d =
     ⊎-elim

@@ -15,8 +15,8 @@ use Rattle.input_queue.specs.declared.Added.{Added}
 use Rattle.input_queue.specs.declared.Served.{Served}
 use Rattle.input_queue.specs.declared.Found.{Found}
 use Rattle.input_queue.specs.declared.Discarded.{Discarded}
-use Rattle.input_queue.specs.declared.Delayed.{Delayed}
-use Rattle.input_queue.specs.Queue.{freshState, newest, add, placeCount, answer, confirms, asked, discard, delayed}
+use Rattle.input_queue.specs.declared.Announced.{Announced}
+use Rattle.input_queue.specs.Queue.{freshState, newest, tossed, add, placeCount, answer, confirms, asked, discard, delayed}
 use Rattle.input_queue.specs.Ring.{queueLength, wordAt, addWords}
 
 -- Setup: 1 where predictor or delay is out of range, and then a fresh queue with both 0.
@@ -27,20 +27,20 @@ unfoldable pub opened : ℕ → ℕ → Opened
 opened p d =
     pick (opens p d) (record { no = done; predictor = p; state = freshState d }) (record { no = outOfRange; predictor = 0; state = freshState 0 })
 
--- Input. c is the frame as a count. After the first, the frame must be one above the last user frame.
+-- Input. f is the frame, and c its count. After the first, the frame must be one above the last user frame.
 abbrev pub outOfTurn : QueueState → ℕ → Bool
-outOfTurn s c = pick (eqb (s .user) 0) false (not (eqb (s .user + 1) c))
+outOfTurn s c = pick (eqb (s .«last_user_count») 0) false (not (eqb (s .«last_user_count» + 1) c))
 
 -- The word and its fills would make more than 128 undiscarded; one that is tossed never does.
 abbrev pub overfull : QueueState → ℕ → Bool
-overfull s c = pick (leb (c + s .delay) (s .added)) false (ltb (s .oldest + queueLength) (c + s .delay))
+overfull s f = pick (tossed s f) false (ltb queueLength (f + s .«frame_delay» + 1 - s .oldest))
 
 -- 7, 6, 3, 4
 unfoldable pub addRefusal : QueueState → ℕ → ℕ
 addRefusal s c =
     pick (eqb c 0)
     frameBelowZero
-    (pick (ltb lastCount c) frameTooHigh (pick (outOfTurn s c) notNextFrame (pick (overfull s c) queueFull done)))
+    (pick (ltb lastCount c) frameTooHigh (pick (outOfTurn s c) notNextFrame (pick (overfull s (c - 1)) queueFull done)))
 
 unfoldable pub addInput : List ℕ → ℕ → QueueState → PlayerInput → Added
 addInput l base s i =
@@ -59,7 +59,7 @@ inputWords l base s i =
 -- Request: 7, 13 while a mismatch stands, 14 below the oldest kept frame.
 unfoldable pub inputRefusal : QueueState → ℕ → ℕ
 inputRefusal s c =
-    pick (eqb c 0) frameBelowZero (pick (eqb (s .wrong) 0) (pick (leb c (s .oldest)) belowOldest done) mismatchStands)
+    pick (eqb c 0) frameBelowZero (pick (eqb (s .«first_incorrect_count») 0) (pick (leb c (s .oldest)) belowOldest done) mismatchStands)
 
 unfoldable pub served : List ℕ → ℕ → QueueState → ℕ → ℤ → Served
 served l base s p f =
@@ -74,7 +74,7 @@ served l base s p f =
 
 -- Confirmed lookup: slot f mod 128 holds f while f is one of the newest 128 places, discarded or not.
 abbrev pub holds : QueueState → ℕ → Bool
-holds s f = pick (ltb f (s .added)) (leb (s .added) (f + queueLength)) false
+holds s f = pick (ltb f (s .«last_added_count»)) (leb (s .«last_added_count») (f + queueLength)) false
 
 -- 7, 11
 unfoldable pub foundRefusal : QueueState → ℕ → ℕ
@@ -95,25 +95,25 @@ discarded s f =
 
 -- Delay change: 1 above 60. A rise, with something stored, announces new minus old copies of the newest word from the next place on.
 abbrev pub announces : QueueState → ℕ → Bool
-announces s d = pick (ltb (s .delay) d) (not (eqb (s .added) 0)) false
+announces s d = pick (ltb (s .«frame_delay») d) (not (eqb (s .«last_added_count») 0)) false
 
-abbrev pub unannounced : ℕ → QueueState → Delayed
+abbrev pub unannounced : ℕ → QueueState → Announced
 unannounced n s = record { no = n; first = nullFrame; count = 0; word = blank; state = s }
 
-unfoldable pub delayedTo : List ℕ → ℕ → QueueState → ℕ → Delayed
+unfoldable pub delayedTo : List ℕ → ℕ → QueueState → ℕ → Announced
 delayedTo l base s d =
     pick (ltb maxDelay d)
     (unannounced outOfRange s)
     (pick (announces s d)
     (record {
       no = done;
-      first = frameOf (s .added + 1);
-      count = d - s .delay;
-      word = newest (wordAt l base) (s .added);
+      first = frameOf (s .«last_added_count» + 1);
+      count = d - s .«frame_delay»;
+      word = newest (wordAt l base) (s .«last_added_count»);
       state = delayed s d;
     })
     (unannounced done (delayed s d)))
 
 -- the first mismatch, or -1
 abbrev pub firstIncorrect : QueueState → ℤ
-firstIncorrect s = frameOf (s .wrong)
+firstIncorrect s = frameOf (s .«first_incorrect_count»)

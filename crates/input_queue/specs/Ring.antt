@@ -29,4 +29,8 @@ unfoldable pub addWords : List ℕ → ℕ → QueueState → ℕ → ℕ → Li
 addWords l base s f w =
     pick (tossed s f)
     l
-    (putWord (fillWords (f + s .delay - s .added) l base (s .added) (newest (wordAt l base) (s .added))) base (f + s .delay) w)
+    (putWord
+    (fillWords (f + s .«frame_delay» - s .«last_added_count») l base (s .«last_added_count») (newest (wordAt l base) (s .«last_added_count»)))
+    base
+    (f + s .«frame_delay»)
+    w)

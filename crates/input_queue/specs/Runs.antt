@@ -37,7 +37,7 @@ placed h k w =
 unfoldable pub placedBy : Queue → List ℕ → Call → List ℕ
 placedBy q h (add-call i) =
     pick (eqb (addRefusal (q .state) (countOf (i .frame))) 0)
-    (placed h (countOf (i .frame) - 1 + q .state .delay) (i .input))
+    (placed h (countOf (i .frame) - 1 + q .state .«frame_delay») (i .input))
     h
 placedBy q h (input-call f) = h
 placedBy q h (discard-call f) = h
@@ -68,5 +68,5 @@ opening p d words = record { state = opened p d .state; words = words }
 
 -- The ring holds the newest 128 of the places h, each at its slot, and the queue counts them all.
 pub record Holds (base : ℕ) (q : Queue) (h : List ℕ) : Type 0 where
-  pub count : q .state .added ≡ length h
+  pub count : q .state .«last_added_count» ≡ length h
   pub newest-held : (f : ℕ) → f < length h → length h ≤ f + queueLength → wordAt (q .words) base f ≡ getD h f blank

@@ -8,12 +8,12 @@ use Rattle.input_queue.specs.Ring.{queueLength}
 
 -- the numbers of one seat
 pub record Sane (s : QueueState) : Type 0 where
-  pub late : s .delay ≤ maxDelay
-  pub users : s .user ≤ lastCount
-  pub few : s .added ≤ lastCount + maxDelay
-  pub kept : s .oldest ≤ s .added
-  pub ring : s .added ≤ s .oldest + queueLength
-  pub ahead : s .predicting ≤ s .added + 1
+  pub late : s .«frame_delay» ≤ maxDelay
+  pub users : s .«last_user_count» ≤ lastCount
+  pub few : s .«last_added_count» ≤ lastCount + maxDelay
+  pub kept : s .oldest ≤ s .«last_added_count»
+  pub ring : s .«last_added_count» ≤ s .oldest + queueLength
+  pub ahead : s .«prediction_count» ≤ s .«last_added_count» + 1
 
 -- and the room for its words
 pub record Whole (l : List ℕ) (base : ℕ) (s : QueueState) : Type 0 where

@@ -9,17 +9,22 @@
 // writes nothing.
 mod steps;
 
+use frame_info::BLANK;
+use frame_info::LAST_COUNT;
+use frame_info::MAX_DELAY;
+use frame_info::NULL_FRAME;
+use frame_info::PREDICTORS;
 use frame_info::PlayerInput;
 use frame_info::count_of;
 use frame_info::frame_of;
 pub use steps::ask;
 pub use steps::discard;
 pub use steps::fresh_state;
-pub use steps::newest_word;
 pub use steps::reset;
 pub use steps::store;
-ghost use Prim.Native.Nat.{_≤_};
+ghost use Prim.Native.Nat.{_≤_, _<_};
 ghost use mathlib.Core.Path.{_≡_};
+ghost use Rattle.frame_info.specs.Frame.{lastCount};
 ghost use Rattle.input_queue.specs.Calls as calls;
 ghost use Rattle.input_queue.specs.Queue as queue;
 ghost use Rattle.input_queue.specs.Whole.{Sane, Whole};
@@ -30,20 +35,20 @@ pub const INPUT_QUEUE_LENGTH: usize = 128;
 // Frames are counts here: 0 for none, else the frame + 1.
 pub struct QueueState {
     // From a frame to its place.
-    pub delay: u32,
+    pub frame_delay: u32,
     // The last user frame.
-    pub user: u32,
+    pub last_user_count: u32,
     // How many places are stored; so the next place.
-    pub added: u32,
+    pub last_added_count: u32,
     // The oldest place that is kept.
     pub oldest: u32,
     // The last requested frame.
-    pub requested: u32,
+    pub last_requested_count: u32,
     // The prediction's frame, and the word that is guessed.
-    pub predicting: u32,
-    pub guess: u32,
+    pub prediction_count: u32,
+    pub prediction: u32,
     // The first mismatch.
-    pub wrong: u32,
+    pub first_incorrect_count: u32,
 }
 
 pub struct Opened {
@@ -75,7 +80,7 @@ pub struct Discarded {
     pub state: QueueState,
 }
 
-pub struct Delayed {
+pub struct Announced {
     pub no: u32,
     pub first: i32,
     pub count: u32,
@@ -126,7 +131,7 @@ pub fn add_input(words: &mut [u32], base: usize, s: QueueState, input: PlayerInp
     if no != 0 {
         return Added {
             no,
-            place: -1,
+            place: NULL_FRAME,
             state: s,
         };
     }
@@ -139,7 +144,8 @@ pub fn add_input(words: &mut [u32], base: usize, s: QueueState, input: PlayerInp
     }
 }
 
-// The word of a frame, confirmed or predicted: 7, 13, 14.
+// The word of a frame, confirmed or predicted: 7, 13, 14. The predictor is the caller's; a number
+// that is no predictor's is taken for 2, the jog cleared.
 pub fn input(words: &[u32], base: usize, s: QueueState, predictor: u32, frame: i32) -> Served
     requires { ⌜ Whole (now words) base s ⌝ }
     ensures { λ r. ⌜ r ≡ calls.served (now (words .entry)) base s predictor frame ⌝ }
@@ -149,12 +155,12 @@ pub fn input(words: &[u32], base: usize, s: QueueState, predictor: u32, frame: i
     if no != 0 {
         return Served {
             no,
-            word: 0,
+            word: BLANK,
             confirmed: false,
             state: s,
         };
     }
-    let asked = ask(words, base, s, predictor, count - 1);
+    let asked = ask(words, base, s, predictor, count);
     let state = asked.state;
     Served {
         no: 0,
@@ -174,10 +180,10 @@ pub fn confirmed_input(words: &[u32], base: usize, s: QueueState, frame: i32) ->
     if no != 0 {
         return Found {
             no,
-            input: PlayerInput::blank_input(-1),
+            input: PlayerInput::blank_input(NULL_FRAME),
         };
     }
-    let at = base + ((count - 1) % 128) as usize;
+    let at = base + (count - 1) as usize % INPUT_QUEUE_LENGTH;
     Found {
         no: 0,
         input: PlayerInput::new(frame, words[at]),
@@ -209,23 +215,23 @@ pub fn reset_prediction(s: QueueState) -> QueueState
 }
 
 // Another delay: 1 above 60. Announces the copies that a rise will make, and stores nothing.
-pub fn set_frame_delay(words: &[u32], base: usize, s: QueueState, delay: u32) -> Delayed
+pub fn set_frame_delay(words: &[u32], base: usize, s: QueueState, delay: u32) -> Announced
     requires { ⌜ Whole (now words) base s ⌝ }
     ensures { λ r. ⌜ r ≡ calls.delayedTo (now (words .entry)) base s delay ⌝ }
 {
-    if delay > frame_info::MAX_DELAY {
+    if delay > MAX_DELAY {
         return unannounced(frame_info::refusal::OUT_OF_RANGE, s);
     }
     let state = steps::with_delay(s, delay);
     if !announces(s, delay) {
         return unannounced(0, state);
     }
-    let added = s.added;
-    Delayed {
+    let added = s.last_added_count;
+    Announced {
         no: 0,
         first: frame_of(added + 1),
-        count: delay - s.delay,
-        word: newest_word(words, base, added),
+        count: delay - s.frame_delay,
+        word: steps::newest_word(words, base, added),
         state,
     }
 }
@@ -234,14 +240,15 @@ pub fn set_frame_delay(words: &[u32], base: usize, s: QueueState, delay: u32) ->
 pub fn first_incorrect_frame(s: QueueState) -> i32
     ensures { λ r. ⌜ r ≡ calls.firstIncorrect s ⌝ }
 {
-    frame_of(s.wrong)
+    frame_of(s.first_incorrect_count)
 }
 
+// Whether predictor and delay are in range.
 fn opens(predictor: u32, delay: u32) -> bool
     ensures { λ r. ⌜ r ≡ calls.opens predictor delay ⌝ }
 {
-    if predictor < frame_info::PREDICTORS {
-        return delay <= frame_info::MAX_DELAY;
+    if predictor < PREDICTORS {
+        return delay <= MAX_DELAY;
     }
     false
 }
@@ -250,44 +257,46 @@ fn opens(predictor: u32, delay: u32) -> bool
 fn announces(s: QueueState, delay: u32) -> bool
     ensures { λ r. ⌜ r ≡ calls.announces s delay ⌝ }
 {
-    if s.delay < delay {
-        return s.added != 0;
+    if s.frame_delay < delay {
+        return s.last_added_count != 0;
     }
     false
 }
 
 // A delay change that announces nothing.
-fn unannounced(no: u32, state: QueueState) -> Delayed
+fn unannounced(no: u32, state: QueueState) -> Announced
     ensures { λ r. ⌜ r ≡ calls.unannounced no state ⌝ }
 {
-    Delayed {
+    Announced {
         no,
-        first: -1,
+        first: NULL_FRAME,
         count: 0,
-        word: 0,
+        word: BLANK,
         state,
     }
 }
 
+// Whether an input is not for the frame after the last user frame.
 fn out_of_turn(s: QueueState, count: u32) -> bool
-    requires { ⌜ s .user ≤ 1000000001 ⌝ }
+    requires { ⌜ s .«last_user_count» ≤ lastCount ⌝ }
     ensures { λ r. ⌜ r ≡ calls.outOfTurn s count ⌝ }
 {
-    if s.user == 0 {
+    if s.last_user_count == 0 {
         return false;
     }
-    s.user + 1 != count
+    s.last_user_count + 1 != count
 }
 
-fn overfull(s: QueueState, count: u32) -> bool
-    requires { ⌜ (count ≤ 1000000001) × (s .delay ≤ 60) × (s .oldest ≤ 2000000000) ⌝ }
-    ensures { λ r. ⌜ r ≡ calls.overfull s count ⌝ }
+// Whether a word and its fills would make more undiscarded than the ring holds.
+fn overfull(s: QueueState, frame: u32) -> bool
+    requires { ⌜ (frame < lastCount) × Sane s ⌝ }
+    ensures { λ r. ⌜ r ≡ calls.overfull s frame ⌝ }
 {
-    let place = count + s.delay;
-    if place <= s.added {
+    let place = frame + s.frame_delay;
+    if place < s.last_added_count {
         return false;
     }
-    s.oldest + 128 < place
+    INPUT_QUEUE_LENGTH < (place + 1 - s.oldest) as usize
 }
 
 // The number by which an input is refused, 0 for none.
@@ -298,13 +307,13 @@ pub fn add_refusal(s: QueueState, count: u32) -> u32
     if count == 0 {
         return frame_info::refusal::FRAME_BELOW_ZERO;
     }
-    if count > frame_info::LAST_COUNT {
+    if count > LAST_COUNT {
         return frame_info::refusal::FRAME_TOO_HIGH;
     }
     if out_of_turn(s, count) {
         return frame_info::refusal::NOT_NEXT_FRAME;
     }
-    if overfull(s, count) {
+    if overfull(s, count - 1) {
         return frame_info::refusal::QUEUE_FULL;
     }
     0
@@ -317,7 +326,7 @@ pub fn input_refusal(s: QueueState, count: u32) -> u32
     if count == 0 {
         return frame_info::refusal::FRAME_BELOW_ZERO;
     }
-    if s.wrong != 0 {
+    if s.first_incorrect_count != 0 {
         return frame_info::refusal::MISMATCH_STANDS;
     }
     if count <= s.oldest {
@@ -334,8 +343,8 @@ pub fn found_refusal(s: QueueState, count: u32) -> u32
         return frame_info::refusal::FRAME_BELOW_ZERO;
     }
     let frame = count - 1;
-    if frame < s.added {
-        if s.added - frame <= 128 {
+    if frame < s.last_added_count {
+        if (s.last_added_count - frame) as usize <= INPUT_QUEUE_LENGTH {
             return 0;
         }
     }

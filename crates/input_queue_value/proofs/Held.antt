@@ -11,7 +11,7 @@ use Rattle.input_queue.specs.declared.Added.{Added}
 use Rattle.input_queue.specs.declared.Served.{Served}
 use Rattle.input_queue.specs.declared.Found.{Found}
 use Rattle.input_queue.specs.declared.Discarded.{Discarded}
-use Rattle.input_queue.specs.declared.Delayed.{Delayed}
+use Rattle.input_queue.specs.declared.Announced.{Announced}
 use Rattle.input_queue_value.specs.declared.InputQueue.{InputQueue}
 use Rattle.input_queue.specs.Queue as queue
 use Rattle.input_queue.specs.Calls as calls
@@ -48,7 +48,7 @@ module _ (q : InputQueue) where
   pub held-reset : (s : QueueState) → s ≡ queue.reset (q .state) → held.withState q s ≡ held.reset q
   held-reset s e = rw e
 
-  pub held-delayed : (d : ℕ) (z : ℤ) (a : Delayed) → z ≡ a .first → a ≡ calls.delayedTo (q .inputs) 0 (q .state) d
+  pub held-delayed : (d : ℕ) (z : ℤ) (a : Announced) → z ≡ a .first → a ≡ calls.delayedTo (q .inputs) 0 (q .state) d
       → record { no = a .no; first = z; count = a .count; word = a .word; queue = held.withState q (a .state) } ≡ held.delayedTo q d
   unfolding held.delayedTo
   held-delayed d z a g e = rw (g, e)

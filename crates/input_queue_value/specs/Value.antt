@@ -10,7 +10,7 @@ use Rattle.input_queue_value.specs.declared.OpenedQueue.{OpenedQueue}
 use Rattle.input_queue_value.specs.declared.AddedQueue.{AddedQueue}
 use Rattle.input_queue_value.specs.declared.ServedQueue.{ServedQueue}
 use Rattle.input_queue_value.specs.declared.DiscardedQueue.{DiscardedQueue}
-use Rattle.input_queue_value.specs.declared.DelayedQueue.{DelayedQueue}
+use Rattle.input_queue_value.specs.declared.AnnouncedQueue.{AnnouncedQueue}
 use Rattle.input_queue.specs.Queue as queue
 use Rattle.input_queue.specs.Ring.{queueLength}
 use Rattle.input_queue.specs.Calls as calls
@@ -57,7 +57,7 @@ discarded q f = record { no = calls.discarded (q .state) f .no; queue = withStat
 abbrev pub reset : InputQueue → InputQueue
 reset q = withState q (queue.reset (q .state))
 
-unfoldable pub delayedTo : InputQueue → ℕ → DelayedQueue
+unfoldable pub delayedTo : InputQueue → ℕ → AnnouncedQueue
 delayedTo q d =
     record {
       no = calls.delayedTo (q .inputs) 0 (q .state) d .no;

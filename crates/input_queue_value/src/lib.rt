@@ -2,8 +2,9 @@
 // lends its own ring to that crate's call of the same name, and puts the queue together again.
 use frame_info::PlayerInput;
 use input_queue::Added;
-use input_queue::Delayed;
+use input_queue::Announced;
 use input_queue::Found;
+use input_queue::INPUT_QUEUE_LENGTH;
 use input_queue::QueueState;
 use input_queue::Served;
 ghost use mathlib.Core.Path.{_≡_};
@@ -15,7 +16,7 @@ ghost use Rattle.input_queue.specs.Whole.{Whole};
 pub struct InputQueue {
     pub predictor: u32,
     pub state: QueueState,
-    pub inputs: [u32; 128],
+    pub inputs: [u32; INPUT_QUEUE_LENGTH],
 }
 
 pub struct OpenedQueue {
@@ -41,7 +42,7 @@ pub struct DiscardedQueue {
     pub queue: InputQueue,
 }
 
-pub struct DelayedQueue {
+pub struct AnnouncedQueue {
     pub no: u32,
     pub first: i32,
     pub count: u32,
@@ -60,7 +61,7 @@ impl InputQueue {
             queue: InputQueue {
                 predictor: o.predictor,
                 state,
-                inputs: [0u32; 128],
+                inputs: [0u32; INPUT_QUEUE_LENGTH],
             },
         }
     }
@@ -127,7 +128,7 @@ impl InputQueue {
         q
     }
 
-    pub fn set_frame_delay(self, delay: u32) -> DelayedQueue
+    pub fn set_frame_delay(self, delay: u32) -> AnnouncedQueue
         requires { ⌜ held.Whole self ⌝ }
         ensures { λ r. ⌜ r ≡ held.delayedTo self delay ⌝ }
     {
@@ -136,7 +137,7 @@ impl InputQueue {
         let d = delay_in(&q.inputs, s, delay);
         let state = d.state;
         q.state = state;
-        DelayedQueue {
+        AnnouncedQueue {
             no: d.no,
             first: d.first,
             count: d.count,
@@ -154,7 +155,7 @@ impl InputQueue {
 }
 
 // The ring as the calls' slice: an array that is a field is lent as an array first.
-fn add_in(words: &mut [u32; 128], s: QueueState, input: PlayerInput) -> Added
+fn add_in(words: &mut [u32; INPUT_QUEUE_LENGTH], s: QueueState, input: PlayerInput) -> Added
     requires { ⌜ Whole (now words) 0 s ⌝ }
     ensures { λ r. ⌜ (r ≡ calls.addInput (now (words .entry)) 0 s input)
         × (now (words .exit) ≡ calls.inputWords (now (words .entry)) 0 s input) ⌝ }
@@ -162,21 +163,21 @@ fn add_in(words: &mut [u32; 128], s: QueueState, input: PlayerInput) -> Added
     input_queue::add_input(words, 0, s, input)
 }
 
-fn ask_in(words: &[u32; 128], s: QueueState, predictor: u32, frame: i32) -> Served
+fn ask_in(words: &[u32; INPUT_QUEUE_LENGTH], s: QueueState, predictor: u32, frame: i32) -> Served
     requires { ⌜ Whole (now words) 0 s ⌝ }
     ensures { λ r. ⌜ r ≡ calls.served (now (words .entry)) 0 s predictor frame ⌝ }
 {
     input_queue::input(words, 0, s, predictor, frame)
 }
 
-fn find_in(words: &[u32; 128], s: QueueState, frame: i32) -> Found
+fn find_in(words: &[u32; INPUT_QUEUE_LENGTH], s: QueueState, frame: i32) -> Found
     requires { ⌜ Whole (now words) 0 s ⌝ }
     ensures { λ r. ⌜ r ≡ calls.found (now (words .entry)) 0 s frame ⌝ }
 {
     input_queue::confirmed_input(words, 0, s, frame)
 }
 
-fn delay_in(words: &[u32; 128], s: QueueState, delay: u32) -> Delayed
+fn delay_in(words: &[u32; INPUT_QUEUE_LENGTH], s: QueueState, delay: u32) -> Announced
     requires { ⌜ Whole (now words) 0 s ⌝ }
     ensures { λ r. ⌜ r ≡ calls.delayedTo (now (words .entry)) 0 s delay ⌝ }
 {

@@ -45,12 +45,23 @@ m2 = record {
 }
 
 m3 : M3
-unfolding queue.opened queue.addRefusal queue.addInput queue.inputWords queue.inputRefusal queue.served queues.opening queues.after queues.run wrongAfter predictingAfter put fill add answer confirms asked fillWords addWords predicted
-m3 = record { accepted = refl; guess = refl; predicted = refl; same = refl; other = refl }
+unfolding queue.opened queue.addRefusal queue.addInput queue.inputWords queue.inputRefusal queue.served queues.opening queues.after queues.run wrongAfter predictingAfter put fill add placeCount answer confirms asked fillWords addWords predicted
+m3 = record {
+  placed = record { accepted = refl; answered = refl };
+  accepted = refl;
+  guess = refl;
+  predicted = refl;
+  same-placed = record { accepted = refl; answered = refl };
+  same = refl;
+  other-placed = record { accepted = refl; answered = refl };
+  other = refl;
+}
 
 m4 : M4
 unfolding queue.opened queue.addRefusal queue.addInput queue.inputWords queue.delayedTo queues.opening queues.after queues.run delayed put fill add placeCount addWords
 m4 = record {
+  input-0 = record { accepted = refl; answered = refl };
+  changed = refl;
   input-1 = record { nowhere = record { accepted = refl; answered = refl }; unwritten = refl };
   input-2 = record { nowhere = record { accepted = refl; answered = refl }; unwritten = refl };
   input-3 = record { accepted = refl; answered = refl };
@@ -77,7 +88,11 @@ unfolding recordsIn records restored unpackedBy unpacked joined lengthsOf left u
 m9 reference out lengths =
     let places = le-leb 0 (length lengths) (omega arith) in
     let room = le-leb 0 (length out) (omega arith) in
-    record { half = refl; short = refl; none = rw (places, room); no-bytes = rw (places, room); no-lengths = rw (places, room) }
+    record {
+      half = record { says = refl; no-bytes = refl; no-lengths = refl };
+      short = record { says = refl; no-bytes = refl; no-lengths = refl };
+      none = record { says = rw (places, room); no-bytes = rw (places, room); no-lengths = rw (places, room) };
+    }
 
 m10 : M10
 m10 = record { both = m10-both; divided = refl; remote-alone = m10-remote; local-alone = m10-local }

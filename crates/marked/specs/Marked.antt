@@ -23,6 +23,7 @@ use Rattle.sync_layer.specs.Runs as layers
 use Rattle.sync_layer.specs.Runs.{Layer}
 use Rattle.compression.specs.Layout.{joined, lengthsOf, unpacked}
 use Rattle.compression.specs.Promise.{packAnswer, packOut, unpackAnswer, unpackOut, unpackLengths, unpackRefused}
+use Rattle.compression.specs.declared.Unpacked.{Unpacked}
 use Rattle.time_sync.specs.declared.TimeSync.{TimeSync}
 use Rattle.time_sync.specs.Windows.{fresh, advanced}
 use Rattle.time_sync.specs.Sums.{windowSum}
@@ -97,24 +98,38 @@ pub record M2 : Type 0 where
 abbrev pub five : Queue
 five = queueAfter 0 (word (pos 0) 5 ∷ [])
 
--- and then frame 1 is asked for, and its word comes
+-- and then frame 1 is asked for
+abbrev pub fiveAsked : Queue
+fiveAsked = queueAfter 0 (word (pos 0) 5 ∷ input-call (pos 1) ∷ [])
+
+-- and its word comes
 abbrev pub fiveThen : ℕ → Queue
 fiveThen w = queueAfter 0 (word (pos 0) 5 ∷ input-call (pos 1) ∷ word (pos 1) w ∷ [])
 
--- M3. 5 is predicted for frame 1. If 5 comes for it there is no mismatch; if 6 does, the mismatch is at 1.
+-- M3. 5 at frame 0 is placed there, and 5 is predicted for frame 1. If 5 comes for it, that is placed and there is no mismatch; if 6 does, that
+-- is placed and the mismatch is at 1.
 pub record M3 : Type 0 where
+  pub placed : Places (queueAfter 0 []) (pos 0) 5 (pos 0)
   pub accepted : queue.served (five .words) 0 (five .state) 0 (pos 1) .no ≡ done
   pub guess : queue.served (five .words) 0 (five .state) 0 (pos 1) .word ≡ 5
   pub predicted : queue.served (five .words) 0 (five .state) 0 (pos 1) .confirmed ≡ false
+  pub same-placed : Places fiveAsked (pos 1) 5 (pos 1)
   pub same : queue.firstIncorrect (fiveThen 5 .state) ≡ nullFrame
+  pub other-placed : Places fiveAsked (pos 1) 6 (pos 1)
   pub other : queue.firstIncorrect (fiveThen 6 .state) ≡ pos 1
 
--- delay 3, a word at 0, delay 1, and then some words
+-- delay 3, and a word at 0
+abbrev pub late : Queue
+late = queueAfter 3 (word (pos 0) 7 ∷ [])
+
+-- and then delay 1, and some words
 abbrev pub shortened : List queues.Call → Queue
 shortened l = queueAfter 3 (word (pos 0) 7 ∷ delay-call 1 ∷ l)
 
--- M4. Inputs 1 and 2 are tossed, and input 3 goes to place 4.
+-- M4. The word goes to place 3, and the delay change is done. Inputs 1 and 2 are tossed, and input 3 goes to place 4.
 pub record M4 : Type 0 where
+  pub input-0 : Places (queueAfter 3 []) (pos 0) 7 (pos 3)
+  pub changed : queue.delayedTo (late .words) 0 (late .state) 1 .no ≡ done
   pub input-1 : Tosses (shortened []) (pos 1) 8
   pub input-2 : Tosses (shortened (word (pos 1) 8 ∷ [])) (pos 2) 9
   pub input-3 : Places (shortened (word (pos 1) 8 ∷ word (pos 2) 9 ∷ [])) (pos 3) 10 (pos 4)
@@ -129,7 +144,7 @@ full w = queueAfter 0 (wordsTo w 128)
 
 -- 128 places are stored and none is discarded; the next word gives 4, and the queue is handed back as it was
 pub record Overflows (q : Queue) (i : PlayerInput) : Type 0 where
-  pub stored : q .state .added ≡ 128
+  pub stored : q .state .«last_added_count» ≡ 128
   pub kept : q .state .oldest ≡ 0
   pub refused : queue.addInput (q .words) 0 (q .state) i ≡ record { no = 4; place = nullFrame; state = q .state }
   pub unwritten : queue.inputWords (q .words) 0 (q .state) i ≡ q .words
@@ -187,17 +202,20 @@ M7 = Packs (0x01 ∷ 0x02 ∷ 0x03 ∷ []) ((0x01 ∷ 0x02 ∷ 0x03 ∷ []) ∷ 
 abbrev pub M8 : Type 0
 M8 = Packs (0xaa ∷ []) ([] ∷ (0xaa ∷ 0x55 ∷ []) ∷ []) (0x00 ∷ 0x00 ∷ 0x02 ∷ 0x00 ∷ 0xaa ∷ 0x55 ∷ [])
 
--- what three packets give by a reference, with lists lent for the bytes and the lengths
-pub record Gives (reference out lengths : List ℕ) : Type 0 where
-  pub half : unpackAnswer (unpacked reference (0x05 ∷ [])) (length out) (length lengths) ≡ unpackRefused 16
-  pub short : unpackAnswer (unpacked reference (0x02 ∷ 0x00 ∷ 0xaa ∷ [])) (length out) (length lengths) ≡ unpackRefused 17
-  pub none : unpackAnswer (unpacked reference []) (length out) (length lengths) ≡ record { no = done; bytes = 0; lengths = 0 }
-  pub no-bytes : unpackOut (unpacked reference []) out (length lengths) ≡ out
-  pub no-lengths : unpackLengths (unpacked reference []) (length out) lengths ≡ lengths
+-- a packet gives this answer by a reference, with lists lent for the bytes and the lengths, and both stay as they were
+pub record Gives (reference out lengths packet : List ℕ) (answer : Unpacked) : Type 0 where
+  pub says : unpackAnswer (unpacked reference packet) (length out) (length lengths) ≡ answer
+  pub no-bytes : unpackOut (unpacked reference packet) out (length lengths) ≡ out
+  pub no-lengths : unpackLengths (unpacked reference packet) (length out) lengths ≡ lengths
 
--- M9. The packet 05 gives 16, and 02 00 AA gives 17; the empty one gives no inputs. So by any reference, whatever is lent.
+pub record ThreePackets (reference out lengths : List ℕ) : Type 0 where
+  pub half : Gives reference out lengths (0x05 ∷ []) (unpackRefused 16)
+  pub short : Gives reference out lengths (0x02 ∷ 0x00 ∷ 0xaa ∷ []) (unpackRefused 17)
+  pub none : Gives reference out lengths [] (record { no = done; bytes = 0; lengths = 0 })
+
+-- M9. The packet 05 gives 16, and 02 00 AA gives 17; the empty one gives no inputs. Nothing is written. So by any reference, whatever is lent.
 abbrev pub M9 : Type 0
-M9 = (reference out lengths : List ℕ) → Gives reference out lengths
+M9 = (reference out lengths : List ℕ) → ThreePackets reference out lengths
 
 -- ---- time sync
 

@@ -34,24 +34,24 @@ samples = refl
 
 -- the kinds of the other calls' fields
 pub kind-samples : map (λ s. readingOf (bytesOf s)) ("layer 2 0" ∷ "layer 2" ∷ "desk 2 0 1 2 3" ∷ "l.request" ∷ "l.request on gone:-1 gone:7" ∷ "l.request gone:" ∷ "l.confirmed 3 On" ∷ "l.confirm 3 1" ∷ "l.confirm 3 2" ∷ "l.confirm 3 01" ∷ "log 0 4096" ∷ "log 0 4097" ∷ "unpack 64 512 0aF1 -" ∷ "unpack 64 513 00 00" ∷ "pack 8 - 0" ∷ "pack 8 - 00ff 65535 2" ∷ "pack 8 - 00 65536" ∷ "now" ∷ [])
-    ≡ reading 8 2 (2 ∷ 0 ∷ [])
+    ≡ reading 64 2 (2 ∷ 0 ∷ [])
     ∷ reading BAD 0 (2 ∷ [])
-    ∷ reading 30 5 (2 ∷ 0 ∷ 1 ∷ 2 ∷ 3 ∷ [])
-    ∷ reading 14 0 []
-    ∷ reading 14 3 (4294967296 ∷ 4294967295 ∷ 7 ∷ [])
+    ∷ reading 256 5 (2 ∷ 0 ∷ 1 ∷ 2 ∷ 3 ∷ [])
+    ∷ reading 70 0 []
+    ∷ reading 70 3 (4294967296 ∷ 4294967295 ∷ 7 ∷ [])
     ∷ reading BAD 0 []
     ∷ reading BAD 0 (3 ∷ [])
-    ∷ reading 16 2 (3 ∷ 1 ∷ [])
+    ∷ reading 72 2 (3 ∷ 1 ∷ [])
     ∷ reading BAD 0 (3 ∷ [])
     ∷ reading BAD 0 (3 ∷ [])
-    ∷ reading 35 2 (0 ∷ 4096 ∷ [])
+    ∷ reading 261 2 (0 ∷ 4096 ∷ [])
     ∷ reading BAD 0 (0 ∷ [])
-    ∷ reading 29 4 (64 ∷ 512 ∷ 2 ∷ 0 ∷ [])
+    ∷ reading 193 4 (64 ∷ 512 ∷ 2 ∷ 0 ∷ [])
     ∷ reading BAD 0 (64 ∷ [])
     ∷ reading BAD 0 (8 ∷ 0 ∷ [])
-    ∷ reading 28 5 (8 ∷ 0 ∷ 2 ∷ 65535 ∷ 2 ∷ [])
+    ∷ reading 192 5 (8 ∷ 0 ∷ 2 ∷ 65535 ∷ 2 ∷ [])
     ∷ reading BAD 0 (8 ∷ 0 ∷ 1 ∷ [])
-    ∷ reading 36 0 []
+    ∷ reading 262 0 []
     ∷ []
 unfolding digitOf allDigits valueAfter valueOf numberOf decimalOf wordOf patternOf andThen signedOf longer pieces filled fieldsOf bytesOf held upTo flagOf statusOf isHex countedOf calls.valueOf row calls sameText placeOf kindAt alone before fieldsFrom called fieldsRead readingOf
 kind-samples = refl

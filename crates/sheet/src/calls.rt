@@ -1,85 +1,22 @@
-// The table of calls. A call more is a constant, its place among NUMBERS and a row of the table here,
-// and a row in specs/Calls.antt.
+// The table of calls. A call more is a number among NUMBERS and a row of the table here, and a row in
+// specs/Calls.antt.
 
 // A line that gets no answer, and one that is answered `bad`.
 pub const PASSED: u32 = 4294967294;
 
 pub const BAD: u32 = 4294967295;
 
-// The calls.
+// Each part has 64 numbers from its first call's on, so that a call more renumbers nothing. The part's own
+// crate names its calls.
 pub const QUEUE: u32 = 0;
 
-pub const Q_ADD: u32 = 1;
+pub const LAYER: u32 = 64;
 
-pub const Q_REQUEST: u32 = 2;
+pub const SYNC: u32 = 128;
 
-pub const Q_CONFIRMED: u32 = 3;
+pub const DELTA: u32 = 192;
 
-pub const Q_DISCARD: u32 = 4;
-
-pub const Q_RESET: u32 = 5;
-
-pub const Q_DELAY: u32 = 6;
-
-pub const Q_WRONG: u32 = 7;
-
-pub const LAYER: u32 = 8;
-
-pub const L_LOCAL: u32 = 9;
-
-pub const L_REMOTE: u32 = 10;
-
-pub const L_SAVE: u32 = 11;
-
-pub const L_LOAD: u32 = 12;
-
-pub const L_ADVANCE: u32 = 13;
-
-pub const L_REQUEST: u32 = 14;
-
-pub const L_CONFIRMED: u32 = 15;
-
-pub const L_CONFIRM: u32 = 16;
-
-pub const L_CONSISTENT: u32 = 17;
-
-pub const L_SAVED: u32 = 18;
-
-pub const L_LATEST: u32 = 19;
-
-pub const L_DELAY: u32 = 20;
-
-pub const L_RESET: u32 = 21;
-
-pub const L_NOW: u32 = 22;
-
-pub const SYNC: u32 = 23;
-
-pub const S_ADVANCE: u32 = 24;
-
-pub const S_AVERAGE: u32 = 25;
-
-pub const S_AVERAGES: u32 = 26;
-
-pub const S_READING: u32 = 27;
-
-pub const PACK: u32 = 28;
-
-pub const UNPACK: u32 = 29;
-
-pub const DESK: u32 = 30;
-
-pub const TAKE: u32 = 31;
-
-pub const SETTLE: u32 = 32;
-
-pub const ADVANCE: u32 = 33;
-
-pub const SHOW: u32 = 34;
-
-pub const LOG: u32 = 35;
-
-pub const NOW: u32 = 36;
+pub const DESK: u32 = 256;
 
 // The kinds of fields.
 pub const NUMBER: u8 = b'n';
@@ -116,42 +53,42 @@ pub const ROWS: usize = 37;
 
 pub const NUMBERS: [u32; ROWS] = [
     QUEUE,
-    Q_ADD,
-    Q_REQUEST,
-    Q_CONFIRMED,
-    Q_DISCARD,
-    Q_RESET,
-    Q_DELAY,
-    Q_WRONG,
+    QUEUE + 1,
+    QUEUE + 2,
+    QUEUE + 3,
+    QUEUE + 4,
+    QUEUE + 5,
+    QUEUE + 6,
+    QUEUE + 7,
     LAYER,
-    L_LOCAL,
-    L_REMOTE,
-    L_SAVE,
-    L_LOAD,
-    L_ADVANCE,
-    L_REQUEST,
-    L_CONFIRMED,
-    L_CONFIRM,
-    L_CONSISTENT,
-    L_SAVED,
-    L_LATEST,
-    L_DELAY,
-    L_RESET,
-    L_NOW,
+    LAYER + 1,
+    LAYER + 2,
+    LAYER + 3,
+    LAYER + 4,
+    LAYER + 5,
+    LAYER + 6,
+    LAYER + 7,
+    LAYER + 8,
+    LAYER + 9,
+    LAYER + 10,
+    LAYER + 11,
+    LAYER + 12,
+    LAYER + 13,
+    LAYER + 14,
     SYNC,
-    S_ADVANCE,
-    S_AVERAGE,
-    S_AVERAGES,
-    S_READING,
-    PACK,
-    UNPACK,
+    SYNC + 1,
+    SYNC + 2,
+    SYNC + 3,
+    SYNC + 4,
+    DELTA,
+    DELTA + 1,
     DESK,
-    TAKE,
-    SETTLE,
-    ADVANCE,
-    SHOW,
-    LOG,
-    NOW,
+    DESK + 1,
+    DESK + 2,
+    DESK + 3,
+    DESK + 4,
+    DESK + 5,
+    DESK + 6,
 ];
 
 // A row has 13 bytes for the name, which a space ends, 4 for the kinds, with a dot for none, and one

@@ -4,9 +4,12 @@ use native.Mathlib.Omega.{arith}
 use native.Mathlib.Nat.{mod-lt}
 use mathlib.Core.Path.{_≡_, refl, ap, sym, _∙_}
 use mathlib.Core.Logic.{_≢_, _⊎_, inl, inr, ⊎-elim}
+use mathlib.Core.Bool.{Bool, true, false}
 use mathlib.Core.List.{List}
 use lib.ListN.{length, getD, set}
 use lib.Seq.{getD-set-other}
+use lib.Dec.{eqb}
+use Rattle.frame_info.specs.Choice.{pick}
 use Rattle.frame_info.proofs.Split.{split-eqb, split-ltb}
 use Rattle.frame_info.specs.Frame.{countOf}
 use Rattle.frame_info.specs.declared.PlayerInput.{PlayerInput}
@@ -39,9 +42,9 @@ module _ (base k : ℕ) (o : Outside base k) where
       ⊎-elim
       (λ a. simp (a .1))
       (λ a. simp (a .1)
-      (put-outside (fillWords (f + s .delay - s .added) l base (s .added) (newest (wordAt l base) (s .added))) (f + s .delay) w
-      ∙ fill-outside (f + s .delay - s .added) l (s .added) (newest (wordAt l base) (s .added))))
-      (split-ltb (f + s .delay) (s .added))
+      (put-outside (fillWords (f + s .«frame_delay» - s .«last_added_count») l base (s .«last_added_count») (newest (wordAt l base) (s .«last_added_count»))) (f + s .«frame_delay») w
+      ∙ fill-outside (f + s .«frame_delay» - s .«last_added_count») l (s .«last_added_count») (newest (wordAt l base) (s .«last_added_count»))))
+      (split-ltb (f + s .«frame_delay») (s .«last_added_count»))
 
   pub input-outside : (l : List ℕ) (s : QueueState) (x : PlayerInput) → getD (queue.inputWords l base s x) k 0 ≡ getD l k 0
   unfolding queue.inputWords
@@ -51,41 +54,38 @@ module _ (base k : ℕ) (o : Outside base k) where
       (λ a. simp (a .1))
       (split-eqb (queue.addRefusal s (countOf (x .frame))) 0)
 
--- Of the layer, whichever number n the input was refused by, if any.
-module _ (n : ℕ) (l words : List ℕ) (i : ℕ) (x : PlayerInput) where
-  pub placed-other : (j : ℕ) → j ≢ i → seatAt (calls.placedSeats n l words i x) j ≡ seatAt l j
-  unfolding calls.placedSeats
-  placed-other j d =
-      ⊎-elim
-      (λ a. simp (a .1) (seat-other l i j (queue.addInput words (ringOf i) (seatAt l i) x .state) d))
-      (λ a. simp (a .1))
-      (split-eqb n 0)
+-- Of the layer, for an input of either kind, whether it is refused or not.
+module _ (l words : List ℕ) (i : ℕ) (x : PlayerInput) where
+  placed-other : (t : Bool) (j : ℕ) → j ≢ i → seatAt (pick t (calls.placedSeats l words i x) l) j ≡ seatAt l j
+  placed-other true j d = seat-other l i j (queue.addInput words (ringOf i) (seatAt l i) x .state) d
+  placed-other false j d = refl
 
-  pub placed-outside : (k : ℕ) → Outside (ringOf i) k → getD (calls.placedWords n l words i x) k 0 ≡ getD words k 0
-  unfolding calls.placedWords
-  placed-outside k o =
-      ⊎-elim (λ a. simp (a .1) (input-outside (ringOf i) k o words (seatAt l i) x)) (λ a. simp (a .1)) (split-eqb n 0)
-
-  -- so each word of another seat's ring
-  pub placed-ring : (j f : ℕ) → j ≢ i → wordAt (calls.placedWords n l words i x) (ringOf j) f ≡ wordAt words (ringOf j) f
-  placed-ring j f d =
-      placed-outside (spot (ringOf j) f)
+  -- each word of another seat's ring
+  placed-ring : (t : Bool) (j f : ℕ) → j ≢ i → wordAt (pick t (calls.placedWords l words i x) words) (ringOf j) f ≡ wordAt words (ringOf j) f
+  placed-ring true j f d =
+      input-outside (ringOf i) (spot (ringOf j) f)
       (⊎-elim (λ a. inl (omega (arith, a .0))) (λ a. inr (omega (arith, a .0, d))) (split-ltb j i))
+      words (seatAt l i) x
+  placed-ring false j f d = refl
 
 -- THE CLAIM, for an input of either kind and for a delay change, which is lent no word to write
 module _ (y : LayerState) (l words : List ℕ) (i j : ℕ) (d : j ≢ i) where
   module _ (x : PlayerInput) where
     pub local-other : seatAt (calls.localSeats y l words i x) j ≡ seatAt l j
-    local-other = placed-other (calls.localRefusal y l i (countOf (x .frame))) l words i x j d
+    unfolding calls.localSeats
+    local-other = placed-other l words i x (eqb (calls.localRefusal y l i (countOf (x .frame))) 0) j d
 
     pub local-ring : (f : ℕ) → wordAt (calls.localWords y l words i x) (ringOf j) f ≡ wordAt words (ringOf j) f
-    local-ring f = placed-ring (calls.localRefusal y l i (countOf (x .frame))) l words i x j f d
+    unfolding calls.localWords
+    local-ring f = placed-ring l words i x (eqb (calls.localRefusal y l i (countOf (x .frame))) 0) j f d
 
     pub remote-other : seatAt (calls.remoteSeats y l words i x) j ≡ seatAt l j
-    remote-other = placed-other (calls.remoteRefusal y l i (countOf (x .frame))) l words i x j d
+    unfolding calls.remoteSeats
+    remote-other = placed-other l words i x (eqb (calls.remoteRefusal y l i (countOf (x .frame))) 0) j d
 
     pub remote-ring : (f : ℕ) → wordAt (calls.remoteWords y l words i x) (ringOf j) f ≡ wordAt words (ringOf j) f
-    remote-ring f = placed-ring (calls.remoteRefusal y l i (countOf (x .frame))) l words i x j f d
+    unfolding calls.remoteWords
+    remote-ring f = placed-ring l words i x (eqb (calls.remoteRefusal y l i (countOf (x .frame))) 0) j f d
 
   pub delayed-other : (n : ℕ) → seatAt (calls.delayedSeats y l words i n) j ≡ seatAt l j
   unfolding calls.delayedSeats
@@ -93,4 +93,4 @@ module _ (y : LayerState) (l words : List ℕ) (i j : ℕ) (d : j ≢ i) where
       ⊎-elim
       (λ a. simp (a .1) (seat-other l i j (queue.delayedTo words (ringOf i) (seatAt l i) n .state) d))
       (λ a. simp (a .1))
-      (split-ltb i (y .seats))
+      (split-ltb i (y .«num_players»))

@@ -14,7 +14,8 @@ use lib.IntN.{ℤ, pos}
 use borrow.Author.Tests.{eq-eqb, ne-eqb, lt-ltb, le-ltb, le-leb, lt-leb, not-true, not-false, eqb-true}
 use Rattle.frame_info.proofs.Split.{split-bool, split-eqb}
 use Rattle.frame_info.specs.Frame.{nullFrame, countOf, frameOf, lastCount}
-use Rattle.frame_info.specs.Word.{predicted}
+use Rattle.frame_info.specs.Word.{blank, predicted}
+use Rattle.frame_info.specs.Status.{statusDisconnected}
 use Rattle.input_queue.specs.declared.QueueState.{QueueState}
 use Rattle.input_queue.specs.declared.Asked.{Asked}
 use Rattle.input_queue.specs.Calls as queue
@@ -38,18 +39,18 @@ module _ (f : ℕ) (gone : List Bool) (last : List ℤ) (i : ℕ) where
   gone-not a = rw a
 
 module _ (y : LayerState) (gone : List Bool) (last : List ℤ) where
-  pub each-both : length gone ≡ y .seats → eqb (length last) (y .seats) ≡ calls.oneEach y gone last
+  pub each-both : length gone ≡ y .«num_players» → eqb (length last) (y .«num_players») ≡ calls.oneEach y gone last
   each-both a = simp (eq-eqb _ _ a)
 
-  pub each-not : (length gone ≡ y .seats → ⊥) → false ≡ calls.oneEach y gone last
+  pub each-not : (length gone ≡ y .«num_players» → ⊥) → false ≡ calls.oneEach y gone last
   each-not a = simp (ne-eqb _ _ a)
 
 -- refusals, seat by seat
-module _ (y : LayerState) (l : List ℕ) (gone : List Bool) (last : List ℤ) (i : ℕ) (t : Bool) (e : t ≡ calls.goneBelow (y .current) gone last i) where
+module _ (y : LayerState) (l : List ℕ) (gone : List Bool) (last : List ℤ) (i : ℕ) (t : Bool) (e : t ≡ calls.goneBelow (y .«current_frame») gone last i) where
   pub ask-gone : t ≡ true → 0 ≡ calls.askRefusal y l gone last i
   ask-gone a = rw (← e, a)
 
-  pub ask-here : (s : QueueState) (r : ℕ) → t ≡ false → s ≡ seatAt l i → r ≡ queue.inputRefusal s (y .current + 1) → r ≡ calls.askRefusal y l gone last i
+  pub ask-here : (s : QueueState) (r : ℕ) → t ≡ false → s ≡ seatAt l i → r ≡ queue.inputRefusal s (y .«current_frame» + 1) → r ≡ calls.askRefusal y l gone last i
   ask-here s r a g h = rw (← e, a) (h ∙ rw g)
 
 -- none of the seats so far refuses
@@ -90,62 +91,67 @@ module _ (y : LayerState) (l : List ℕ) (gone : List Bool) (last : List ℤ) (t
   unfolding calls.requestRefusal
   request-short a = rw (← e, not-true t a)
 
-  pub request-each : (r : ℕ) → not t ≡ false → r ≡ firstRefusal (y .seats) (calls.askRefusal y l gone last) → r ≡ calls.requestRefusal y l gone last
+  pub request-each : (r : ℕ) → not t ≡ false → r ≡ firstRefusal (y .«num_players») (calls.askRefusal y l gone last) → r ≡ calls.requestRefusal y l gone last
   unfolding calls.requestRefusal
   request-each r a g = rw (← e, not-false t a) g
 
 -- a list with one entry a seat has its two lengths
 module _ (y : LayerState) (gone : List Bool) (last : List ℤ) (t : Bool) (e : t ≡ calls.oneEach y gone last) (a : not t ≡ false) where
-  each-lengths : (length gone ≡ y .seats) × (length last ≡ y .seats)
+  each-lengths : (length gone ≡ y .«num_players») × (length last ≡ y .«num_players»)
   each-lengths =
       ⊎-elim
-      (λ b. (b .0, eqb-true (length last) (y .seats) (sym (sym (not-false t a) ∙ e ∙ simp (b .1)))))
+      (λ b. (b .0, eqb-true (length last) (y .«num_players») (sym (sym (not-false t a) ∙ e ∙ simp (b .1)))))
       (λ b. absurd (true≢false (sym (not-false t a) ∙ e ∙ simp (b .1))))
-      (split-eqb (length gone) (y .seats))
+      (split-eqb (length gone) (y .«num_players»))
 
-  pub each-gone : y .seats ≡ length gone
+  pub each-gone : y .«num_players» ≡ length gone
   each-gone = sym (each-lengths .0)
 
-  pub each-last : y .seats ≡ length last
+  pub each-last : y .«num_players» ≡ length last
   each-last = sym (each-lengths .1)
 
 pub ruleset requests = (gone-marked, gone-not, each-both, each-not, ask-gone, ask-here, unrefused-start, unrefused-turn, refused-here, unrefused-end, request-short, request-each, each-gone, each-last)
 
 -- One seat served
-module _ (y : LayerState) (l words : List ℕ) (i : ℕ) (g : Bool) where
-  module _ (a : g ≡ true) where
-    pub seat-gone : l ≡ calls.seatAsked y words g i l
-    seat-gone = rw a
+module _ (y : LayerState) (l words : List ℕ) (gone : List Bool) (last : List ℤ) (i : ℕ) (t : Bool) (e : t ≡ calls.goneBelow (y .«current_frame») gone last i) where
+  module _ (a : t ≡ true) where
+    pub seat-gone : l ≡ setSeat l i (calls.askedSeat y l words gone last i (seatAt l i))
+    seat-gone = rw (← e, a) (sym (seat-kept l i))
 
-    pub word-gone : (m : List ℕ) → set m i 0 ≡ set m i (calls.wordAsked y l words g i)
-    word-gone m = rw a
+    pub word-gone : (m : List ℕ) → set m i blank ≡ set m i (calls.servedWord y l words gone last i)
+    word-gone m = rw (← e, a)
 
-    pub standing-gone : (m : List ℕ) → set m i 2 ≡ set m i (calls.standingAsked y l g i)
-    standing-gone m = rw a
+    pub status-gone : (m : List ℕ) → set m i statusDisconnected ≡ set m i (calls.status y l words gone last i)
+    status-gone m = rw (← e, a)
 
-  module _ (a : g ≡ false) (s : QueueState) (r : Asked) (e : s ≡ seatAt l i) (d : r ≡ asking (predicted (y .predictor)) (wordAt words (ringOf i)) s (y .current)) where
-    pub seat-here : (l′ : List ℕ) → l′ ≡ setSeat l i (r .state) → l′ ≡ calls.seatAsked y words g i l
-    seat-here l′ h = rw a (h ∙ rw (d, e))
+  module _ (a : t ≡ false) (r : Asked) (d : r ≡ asking (predicted (y .predictor)) (wordAt words (ringOf i)) (seatAt l i) (y .«current_frame»)) where
+    pub seat-here : (l′ : List ℕ) → l′ ≡ setSeat l i (r .state) → l′ ≡ setSeat l i (calls.askedSeat y l words gone last i (seatAt l i))
+    seat-here l′ h = rw (← e, a) (h ∙ rw d)
 
-    pub word-here : (m : List ℕ) → set m i (r .word) ≡ set m i (calls.wordAsked y l words g i)
-    word-here m = rw a (rw (d, e))
+    pub word-here : (m : List ℕ) → set m i (r .word) ≡ set m i (calls.servedWord y l words gone last i)
+    word-here m = rw (← e, a, d)
 
-    pub standing-here : (m : List ℕ) (n : ℕ) → n ≡ calls.standingOf (r .confirmed) → set m i n ≡ set m i (calls.standingAsked y l g i)
-    standing-here m n h = rw a (rw (h, d, e))
+    pub status-here : (m : List ℕ) (n : ℕ) → n ≡ calls.statusOf (r .confirmed) → set m i n ≡ set m i (calls.status y l words gone last i)
+    status-here m n h = rw (← e, a) (rw (h, d))
 
-  pub serves-whole : (s : QueueState) → Serves y l words i → s ≡ seatAt l i → queues.Whole words (ringOf i) s
-  serves-whole s h e = rw e (h .whole)
+-- a request takes the frame as a count
+pub asked-here : (y : LayerState) (l words : List ℕ) (i : ℕ) (s : QueueState) (r : Asked) → s ≡ seatAt l i
+    → r ≡ asking (predicted (y .predictor)) (wordAt words (ringOf i)) s (y .«current_frame» + 1 - 1)
+    → r ≡ asking (predicted (y .predictor)) (wordAt words (ringOf i)) (seatAt l i) (y .«current_frame»)
+asked-here y l words i s r e d =
+    let k : y .«current_frame» + 1 - 1 ≡ y .«current_frame» = omega arith in
+    rw (← e) (rw k at d)
 
-  asked-anyway : calls.seatAsked y words g i l ≡ setSeat l i (calls.queueAsked y words g i (seatAt l i))
-  asked-anyway = ⊎-elim (λ a. rw a (sym (seat-kept l i))) (λ a. rw a) (split-bool g)
+pub serves-whole : (y : LayerState) (l words : List ℕ) (i : ℕ) (s : QueueState) → Serves y l words i → s ≡ seatAt l i → queues.Whole words (ringOf i) s
+serves-whole y l words i s h e = rw e (h .whole)
 
 -- Every seat so far
 module _ (y : LayerState) (l₀ words : List ℕ) (gone : List Bool) (last : List ℤ) (m₀ k₀ : List ℕ) where
   pub record Serving (l m k : List ℕ) (i : ℕ) : Type 0 where
-    pub upto : i ≤ y .seats
+    pub upto : i ≤ y .«num_players»
     pub seats : l ≡ mapSeats i (calls.askedSeat y l₀ words gone last) l₀
     pub inputs : m ≡ writeRow i m₀ 0 (calls.servedWord y l₀ words gone last)
-    pub statuses : k ≡ writeRow i k₀ 0 (calls.standing y l₀ words gone last)
+    pub statuses : k ≡ writeRow i k₀ 0 (calls.status y l₀ words gone last)
     pub long : length l ≡ length l₀
     pub long-inputs : length m ≡ length m₀
     pub long-statuses : length k ≡ length k₀
@@ -160,7 +166,7 @@ module _ (y : LayerState) (l₀ words : List ℕ) (gone : List Bool) (last : Lis
     stands : seatAt l i ≡ seatAt l₀ i
     stands = rw (v .seats) (map-past (calls.askedSeat y l₀ words gone last) i l₀ i (omega arith))
 
-    pub serving-serves : i < y .seats → Seated y l₀ → WordRoom words → Serves y l words i
+    pub serving-serves : i < y .«num_players» → Seated y l₀ → WordRoom words → Serves y l words i
     serving-serves p h w =
         record {
           early = h .ready .early;
@@ -168,53 +174,53 @@ module _ (y : LayerState) (l₀ words : List ℕ) (gone : List Bool) (last : Lis
           whole = rw stands (record { room = omega (arith, h .ready .few); numbers = h .seat i p });
         }
 
-    pub serving-turn : (g : Bool) (l′ m′ k′ : List ℕ) → i < y .seats → g ≡ calls.goneBelow (y .current) gone last i
-        → l′ ≡ calls.seatAsked y words g i l → m′ ≡ set m i (calls.wordAsked y l words g i) → k′ ≡ set k i (calls.standingAsked y l g i)
+    pub serving-turn : (l′ m′ k′ : List ℕ) → i < y .«num_players» → l′ ≡ setSeat l i (calls.askedSeat y l words gone last i (seatAt l i))
+        → m′ ≡ set m i (calls.servedWord y l words gone last i) → k′ ≡ set k i (calls.status y l words gone last i)
         → Serving y l₀ words gone last m₀ k₀ l′ m′ k′ (i + 1)
     unfolding mapSeats writeRow
-    serving-turn g l′ m′ k′ p e a b d =
+    serving-turn l′ m′ k′ p a b d =
         record {
           upto = omega arith;
-          seats = rw add-one (a ∙ asked-anyway y l words i g ∙ rw (stands, e) (ap (λ (x : List ℕ). setSeat x i (calls.askedSeat y l₀ words gone last i (seatAt l₀ i))) (v .seats)));
-          inputs = rw (add-one, zero-add) (b ∙ rw (stands, e) (ap (λ (x : List ℕ). set x i (calls.servedWord y l₀ words gone last i)) (v .inputs)));
-          statuses = rw (add-one, zero-add) (d ∙ rw (stands, e) (ap (λ (x : List ℕ). set x i (calls.standing y l₀ words gone last i)) (v .statuses)));
-          long = rw (a, asked-anyway y l words i g, seat-long l i (calls.queueAsked y words g i (seatAt l i))) (v .long);
+          seats = rw add-one (a ∙ rw stands (ap (λ (x : List ℕ). setSeat x i (calls.askedSeat y l₀ words gone last i (seatAt l₀ i))) (v .seats)));
+          inputs = rw (add-one, zero-add) (b ∙ rw stands (ap (λ (x : List ℕ). set x i (calls.servedWord y l₀ words gone last i)) (v .inputs)));
+          statuses = rw (add-one, zero-add) (d ∙ rw stands (ap (λ (x : List ℕ). set x i (calls.status y l₀ words gone last i)) (v .statuses)));
+          long = rw (a, seat-long l i (calls.askedSeat y l words gone last i (seatAt l i))) (v .long);
           long-inputs = rw b (simp length-set (v .long-inputs));
           long-statuses = rw d (simp length-set (v .long-statuses));
         }
 
-    module _ (p : y .seats ≤ i) where
-      all-seats : y .seats ≡ i
+    module _ (p : y .«num_players» ≤ i) where
+      all-seats : y .«num_players» ≡ i
       all-seats = omega (arith, v .upto)
 
-      pub serving-seats : l ≡ mapSeats (y .seats) (calls.askedSeat y l₀ words gone last) l₀
+      pub serving-seats : l ≡ mapSeats (y .«num_players») (calls.askedSeat y l₀ words gone last) l₀
       serving-seats = rw all-seats (v .seats)
 
-      pub serving-inputs : m ≡ writeRow (y .seats) m₀ 0 (calls.servedWord y l₀ words gone last)
+      pub serving-inputs : m ≡ writeRow (y .«num_players») m₀ 0 (calls.servedWord y l₀ words gone last)
       serving-inputs = rw all-seats (v .inputs)
 
-      pub serving-statuses : k ≡ writeRow (y .seats) k₀ 0 (calls.standing y l₀ words gone last)
+      pub serving-statuses : k ≡ writeRow (y .«num_players») k₀ 0 (calls.status y l₀ words gone last)
       serving-statuses = rw all-seats (v .statuses)
 
-pub ruleset servings = (seat-gone, word-gone, standing-gone, seat-here, word-here, standing-here, serves-whole, serving-start, serving-serves, serving-turn, serving-seats, serving-inputs, serving-statuses)
+pub ruleset servings = (seat-gone, word-gone, status-gone, seat-here, word-here, status-here, asked-here, serves-whole, serving-start, serving-serves, serving-turn, serving-seats, serving-inputs, serving-statuses)
 
 -- The whole request
 module _ (y : LayerState) (l words : List ℕ) (gone : List Bool) (last : List ℤ) (n : ℕ) (e : n ≡ calls.requestRefusal y l gone last) where
-  request-fits : n ≡ 0 → (length gone ≡ y .seats) × (length last ≡ y .seats)
+  request-fits : n ≡ 0 → (length gone ≡ y .«num_players») × (length last ≡ y .«num_players»)
   unfolding calls.requestRefusal
   request-fits z =
       ⊎-elim
       (λ a. ⊎-elim
       (λ b. (a .0, b .0))
       (λ b. absurd (omega (arith, simp (a .1, b .1) at (sym e ∙ z))))
-      (split-eqb (length last) (y .seats)))
+      (split-eqb (length last) (y .«num_players»)))
       (λ a. absurd (omega (arith, simp (a .1) at (sym e ∙ z))))
-      (split-eqb (length gone) (y .seats))
+      (split-eqb (length gone) (y .«num_players»))
 
-  pub request-gone : n ≡ 0 → y .seats ≡ length gone
+  pub request-gone : n ≡ 0 → y .«num_players» ≡ length gone
   request-gone z = sym (request-fits z .0)
 
-  pub request-last : n ≡ 0 → y .seats ≡ length last
+  pub request-last : n ≡ 0 → y .«num_players» ≡ length last
   request-last z = sym (request-fits z .1)
 
   module _ (h : n ≡ 0 → ⊥) where
@@ -226,40 +232,39 @@ module _ (y : LayerState) (l words : List ℕ) (gone : List Bool) (last : List �
     unfolding calls.servedWords
     refused-words m = rw (← e) (simp (ne-eqb _ _ h))
 
-    pub refused-standings : (m : List ℕ) → m ≡ calls.standings y l words gone last m
-    unfolding calls.standings
-    refused-standings m = rw (← e) (simp (ne-eqb _ _ h))
+    pub refused-statuses : (m : List ℕ) → m ≡ calls.statuses y l words gone last m
+    unfolding calls.statuses
+    refused-statuses m = rw (← e) (simp (ne-eqb _ _ h))
 
   module _ (h : n ≡ 0) (m r : List ℕ) where
     pub done-number : 0 ≡ calls.requestRefusal y l gone last
     done-number = sym h ∙ e
 
-    pub done-seats : r ≡ mapSeats (y .seats) (calls.askedSeat y l words gone last) l → r ≡ calls.servedSeats y l words gone last
+    pub done-seats : r ≡ mapSeats (y .«num_players») (calls.askedSeat y l words gone last) l → r ≡ calls.servedSeats y l words gone last
     unfolding calls.servedSeats
     done-seats g = rw (← e) (simp (eq-eqb _ _ h) g)
 
-    pub done-words : r ≡ writeRow (y .seats) m 0 (calls.servedWord y l words gone last) → r ≡ calls.servedWords y l words gone last m
+    pub done-words : r ≡ writeRow (y .«num_players») m 0 (calls.servedWord y l words gone last) → r ≡ calls.servedWords y l words gone last m
     unfolding calls.servedWords
     done-words g = rw (← e) (simp (eq-eqb _ _ h) g)
 
-    pub done-standings : r ≡ writeRow (y .seats) m 0 (calls.standing y l words gone last) → r ≡ calls.standings y l words gone last m
-    unfolding calls.standings
-    done-standings g = rw (← e) (simp (eq-eqb _ _ h) g)
+    pub done-statuses : r ≡ writeRow (y .«num_players») m 0 (calls.status y l words gone last) → r ≡ calls.statuses y l words gone last m
+    unfolding calls.statuses
+    done-statuses g = rw (← e) (simp (eq-eqb _ _ h) g)
 
 -- Lookups, seat by seat
-module _ (g : Bool) (c : ℕ) where
-  pub frame-gone : g ≡ true → nullFrame ≡ calls.frameFound g c
-  frame-gone a = rw a
+module _ (gone : List Bool) (last : List ℤ) (c i : ℕ) (t : Bool) (e : t ≡ calls.goneBelow (c - 1) gone last i) where
+  pub frame-gone : t ≡ true → nullFrame ≡ calls.confirmedFrame gone last c i
+  frame-gone a = rw (← e, a)
 
-  pub frame-here : (f f′ : ℤ) → g ≡ false → f′ ≡ f → f ≡ frameOf c → f′ ≡ calls.frameFound g c
-  frame-here f f′ a e d = rw a (e ∙ d)
+  pub frame-here : (f f′ : ℤ) → t ≡ false → f′ ≡ f → f ≡ frameOf c → f′ ≡ calls.confirmedFrame gone last c i
+  frame-here f f′ a g d = rw (← e, a) (g ∙ d)
 
-module _ (words : List ℕ) (g : Bool) (i at : ℕ) where
-  pub found-gone : g ≡ true → 0 ≡ calls.wordFound words g i at
-  found-gone a = rw a
+  pub found-gone : (words : List ℕ) → t ≡ true → blank ≡ calls.confirmedWord words gone last c i
+  found-gone words a = rw (← e, a)
 
-  pub found-here : (w : ℕ) → g ≡ false → w ≡ wordAt words (ringOf i) at → w ≡ calls.wordFound words g i at
-  found-here w a e = rw a e
+  pub found-here : (words : List ℕ) (w : ℕ) → t ≡ false → w ≡ wordAt words (ringOf i) (c - 1) → w ≡ calls.confirmedWord words gone last c i
+  found-here words w a g = rw (← e, a) g
 
 module _ (l : List ℕ) (gone : List Bool) (last : List ℤ) (c i : ℕ) (t : Bool) (e : t ≡ calls.goneBelow (c - 1) gone last i) where
   pub find-gone : t ≡ true → 0 ≡ calls.findRefusal l gone last c i
@@ -277,7 +282,7 @@ module _ (y : LayerState) (l : List ℕ) (gone : List Bool) (last : List ℤ) (c
   unfolding calls.confirmedRefusal
   lookup-below a b = rw (← e, not-false t a) (simp (eq-eqb _ _ b))
 
-  pub lookup-each : (r : ℕ) → not t ≡ false → (c ≡ 0 → ⊥) → r ≡ firstRefusal (y .seats) (calls.findRefusal l gone last c) → r ≡ calls.confirmedRefusal y l gone last c
+  pub lookup-each : (r : ℕ) → not t ≡ false → (c ≡ 0 → ⊥) → r ≡ firstRefusal (y .«num_players») (calls.findRefusal l gone last c) → r ≡ calls.confirmedRefusal y l gone last c
   unfolding calls.confirmedRefusal
   lookup-each r a b g = rw (← e, not-false t a) (simp (ne-eqb _ _ b) g)
 
@@ -312,34 +317,31 @@ module _ (n : ℕ) (frames₀ : List ℤ) (inputs₀ : List ℕ) (g : ℕ → �
     pub finding-words : n ≤ i → inputs ≡ writeRow n inputs₀ 0 w
     finding-words p = let e : n ≡ i = omega (arith, v .upto) in rw e (v .words)
 
-pub frame-found : (gone : List Bool) (last : List ℤ) (c i : ℕ) (t : Bool) (z z′ : ℤ) → t ≡ calls.goneBelow (c - 1) gone last i → z′ ≡ z → z ≡ calls.frameFound t c → z′ ≡ calls.confirmedFrame gone last c i
-frame-found gone last c i t z z′ e d g = rw (← e) (d ∙ g)
+pub frame-found : (gone : List Bool) (last : List ℤ) (c i : ℕ) (z z′ : ℤ) → z′ ≡ z → z ≡ calls.confirmedFrame gone last c i → z′ ≡ calls.confirmedFrame gone last c i
+frame-found gone last c i z z′ d g = d ∙ g
 
-pub word-found : (words : List ℕ) (gone : List Bool) (last : List ℤ) (c i : ℕ) (t : Bool) (z : ℕ) → t ≡ calls.goneBelow (c - 1) gone last i → z ≡ calls.wordFound words t i (c - 1) → z ≡ calls.confirmedWord words gone last c i
-word-found words gone last c i t z e g = rw (← e) g
-
-pub ruleset lookups = (frame-gone, frame-here, found-gone, found-here, find-gone, find-here, lookup-short, lookup-below, lookup-each, each-gone, each-last, unrefused-start, unrefused-turn, refused-here, unrefused-end, finding-start, finding-turn, finding-frames, finding-words, frame-found, word-found)
+pub ruleset lookups = (frame-gone, frame-here, found-gone, found-here, find-gone, find-here, lookup-short, lookup-below, lookup-each, each-gone, each-last, unrefused-start, unrefused-turn, refused-here, unrefused-end, finding-start, finding-turn, finding-frames, finding-words, frame-found)
 
 -- The whole lookup
 module _ (y : LayerState) (l words : List ℕ) (gone : List Bool) (last : List ℤ) (f f′ : ℤ) (c n : ℕ) (b : f′ ≡ f) (d : c ≡ countOf f′) (e : n ≡ calls.confirmedRefusal y l gone last c) where
   number : n ≡ calls.confirmedNumber y l gone last f
   number = rw (← b, ← d) e
 
-  lookup-fits : n ≡ 0 → (length gone ≡ y .seats) × (length last ≡ y .seats)
+  lookup-fits : n ≡ 0 → (length gone ≡ y .«num_players») × (length last ≡ y .«num_players»)
   unfolding calls.confirmedRefusal
   lookup-fits z =
       ⊎-elim
       (λ a. ⊎-elim
       (λ k. (a .0, k .0))
       (λ k. absurd (omega (arith, simp (a .1, k .1) at (sym e ∙ z))))
-      (split-eqb (length last) (y .seats)))
+      (split-eqb (length last) (y .«num_players»)))
       (λ a. absurd (omega (arith, simp (a .1) at (sym e ∙ z))))
-      (split-eqb (length gone) (y .seats))
+      (split-eqb (length gone) (y .«num_players»))
 
-  pub lookup-gone : n ≡ 0 → y .seats ≡ length gone
+  pub lookup-gone : n ≡ 0 → y .«num_players» ≡ length gone
   lookup-gone z = sym (lookup-fits z .0)
 
-  pub lookup-last : n ≡ 0 → y .seats ≡ length last
+  pub lookup-last : n ≡ 0 → y .«num_players» ≡ length last
   lookup-last z = sym (lookup-fits z .1)
 
   pub lookup-some : n ≡ 0 → 0 < c
@@ -366,11 +368,11 @@ module _ (y : LayerState) (l words : List ℕ) (gone : List Bool) (last : List �
     unfound-words m = rw (← number) (simp (ne-eqb _ _ h))
 
   module _ (h : n ≡ 0) where
-    pub all-frames : (m r : List ℤ) → r ≡ writeRow (y .seats) m 0 (calls.confirmedFrame gone last c) → r ≡ calls.confirmedFrames y l gone last f m
+    pub all-frames : (m r : List ℤ) → r ≡ writeRow (y .«num_players») m 0 (calls.confirmedFrame gone last c) → r ≡ calls.confirmedFrames y l gone last f m
     unfolding calls.confirmedFrames
     all-frames m r g = rw (← number) (simp (eq-eqb _ _ h) (rw (← b, ← d) g))
 
-    pub all-words : (m r : List ℕ) → r ≡ writeRow (y .seats) m 0 (calls.confirmedWord words gone last c) → r ≡ calls.confirmedWords y l words gone last f m
+    pub all-words : (m r : List ℕ) → r ≡ writeRow (y .«num_players») m 0 (calls.confirmedWord words gone last c) → r ≡ calls.confirmedWords y l words gone last f m
     unfolding calls.confirmedWords
     all-words m r g = rw (← number) (simp (eq-eqb _ _ h) (rw (← b, ← d) g))
 

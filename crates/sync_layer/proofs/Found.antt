@@ -71,17 +71,17 @@ near-stands limit l f g c b p q s =
     }
 
 -- as the saved lookup tells it
-stands-found : (y : LayerState) (l : List ℕ) (f : ℕ) (c : Console) → Stands (y .limit) l f c → calls.savedBy y l (pos f) ≡ record { no = 0; state = c }
+stands-found : (y : LayerState) (l : List ℕ) (f : ℕ) (c : Console) → Stands (y .«max_prediction») l f c → calls.savedBy y l (pos f) ≡ record { no = 0; state = c }
 unfolding calls.savedBy calls.savedRefusal
 stands-found y l f c s =
     let e : f + 1 - 1 ≡ f = omega arith in
-    rw e (simp (ne-eqb (f + 1) 0 (λ z. omega arith), eq-eqb (slotAt (y .limit) l f 0) (f + 1) (s .count)) (ap (λ (b : Console). record { no = 0; state = b }) (s .state)))
+    rw e (simp (ne-eqb (f + 1) 0 (λ z. omega arith), eq-eqb (slotAt (y .«max_prediction») l f 0) (f + 1) (s .count)) (ap (λ (b : Console). record { no = 0; state = b }) (s .state)))
 
-later-refused : (y : LayerState) (l : List ℕ) (f : ℕ) → f + 1 < slotAt (y .limit) l f 0 → calls.savedBy y l (pos f) .no ≡ slotHoldsAnother
+later-refused : (y : LayerState) (l : List ℕ) (f : ℕ) → f + 1 < slotAt (y .«max_prediction») l f 0 → calls.savedBy y l (pos f) .no ≡ slotHoldsAnother
 unfolding calls.savedBy calls.savedRefusal
 later-refused y l f p =
     let e : f + 1 - 1 ≡ f = omega arith in
-    rw e (simp (ne-eqb (f + 1) 0 (λ z. omega arith), ne-eqb (slotAt (y .limit) l f 0) (f + 1) (λ z. omega arith)))
+    rw e (simp (ne-eqb (f + 1) 0 (λ z. omega arith), ne-eqb (slotAt (y .«max_prediction») l f 0) (f + 1) (λ z. omega arith)))
 
 -- Over the frames that follow
 all-stands : (limit : ℕ) (cs : List Console) (l : List ℕ) (f g : ℕ) (c : Console) → f < g → g + length cs ≤ f + limit + 1 → Stands limit l f c
@@ -127,25 +127,25 @@ module _ (limit : ℕ) (near : limit ≤ maxLimit) (f : ℕ) where
 
 -- THE CLAIM: a frame, saved and then followed by the frames after it, is found again with its state up to limit of them, and no more
 -- from limit + 1 on.
-module _ (y : LayerState) (l : List ℕ) (near : y .limit ≤ maxLimit) (room : SlotRoom l) (f : ℕ) (c : Console) (cs : List Console) where
-  pub found-again : length cs ≤ y .limit → calls.savedBy y (runs.saveAll (y .limit) l f (c ∷ cs)) (pos f) ≡ record { no = 0; state = c }
+module _ (y : LayerState) (l : List ℕ) (near : y .«max_prediction» ≤ maxLimit) (room : SlotRoom l) (f : ℕ) (c : Console) (cs : List Console) where
+  pub found-again : length cs ≤ y .«max_prediction» → calls.savedBy y (runs.saveAll (y .«max_prediction») l f (c ∷ cs)) (pos f) ≡ record { no = 0; state = c }
   unfolding runs.saveAll
   found-again p =
-      stands-found y (runs.saveAll (y .limit) (saveSlot (y .limit) l f c) (f + 1) cs) f c
-      (all-stands (y .limit) cs (saveSlot (y .limit) l f c) f (f + 1) c (omega arith) (omega arith) (save-stands (y .limit) l f c near room))
+      stands-found y (runs.saveAll (y .«max_prediction») (saveSlot (y .«max_prediction») l f c) (f + 1) cs) f c
+      (all-stands (y .«max_prediction») cs (saveSlot (y .«max_prediction») l f c) f (f + 1) c (omega arith) (omega arith) (save-stands (y .«max_prediction») l f c near room))
 
-  pub found-no-more : y .limit < length cs → calls.savedBy y (runs.saveAll (y .limit) l f (c ∷ cs)) (pos f) .no ≡ slotHoldsAnother
+  pub found-no-more : y .«max_prediction» < length cs → calls.savedBy y (runs.saveAll (y .«max_prediction») l f (c ∷ cs)) (pos f) .no ≡ slotHoldsAnother
   unfolding runs.saveAll
   found-no-more p =
-      later-refused y (runs.saveAll (y .limit) (saveSlot (y .limit) l f c) (f + 1) cs) f
-      (all-over (y .limit) near f cs (saveSlot (y .limit) l f c) (f + 1) (rw (save-long (y .limit) l f c) room) (omega arith) (omega arith) (omega arith))
+      later-refused y (runs.saveAll (y .«max_prediction») (saveSlot (y .«max_prediction») l f c) (f + 1) cs) f
+      (all-over (y .«max_prediction») near f cs (saveSlot (y .«max_prediction») l f c) (f + 1) (rw (save-long (y .«max_prediction») l f c) room) (omega arith) (omega arith) (omega arith))
 
 -- And through any run of calls, loads and frames saved anew among them, whose saves are all of the limit frames after it.
-after-stands : (y : Layer) (x : Call) (f : ℕ) (c : Console) → runs.SavesNear f y x → Stands (y .state .limit) (y .slots) f c
-    → Stands (y .state .limit) (runs.after y x .slots) f c
+after-stands : (y : Layer) (x : Call) (f : ℕ) (c : Console) → runs.SavesNear f y x → Stands (y .state .«max_prediction») (y .slots) f c
+    → Stands (y .state .«max_prediction») (runs.after y x .slots) f c
 unfolding runs.after runs.SavesNear
 after-stands y advance-call f c n s = s
-after-stands y (save-call b) f c n s = near-stands (y .state .limit) (y .slots) f (y .state .current) c b (n .0) (n .1) s
+after-stands y (save-call b) f c n s = near-stands (y .state .«max_prediction») (y .slots) f (y .state .«current_frame») c b (n .0) (n .1) s
 after-stands y (load-call g) f c n s = s
 after-stands y (local-call i x) f c n s = s
 after-stands y (remote-call i x) f c n s = s
@@ -154,18 +154,18 @@ after-stands y reset-call f c n s = s
 after-stands y (request-call gone last) f c n s = s
 after-stands y (confirm-call g sparse) f c n s = s
 
-run-stands : (y : Layer) (l : List Call) (f : ℕ) (c : Console) → runs.AllSavesNear f y l → Stands (y .state .limit) (y .slots) f c
-    → Stands (runs.run y l .state .limit) (runs.run y l .slots) f c
+run-stands : (y : Layer) (l : List Call) (f : ℕ) (c : Console) → runs.AllSavesNear f y l → Stands (y .state .«max_prediction») (y .slots) f c
+    → Stands (runs.run y l .state .«max_prediction») (runs.run y l .slots) f c
 unfolding runs.run runs.AllSavesNear
 run-stands y [] f c n s = s
 run-stands y (x ∷ l) f c n s =
     run-stands (runs.after y x) l f c (n .1) (rw (after-same y x .limit) (after-stands y x f c (n .0) s))
 
 -- THE CLAIM
-pub run-found : (y : Layer) (c : Console) (l : List Call) → WholeLayer y → runs.AllSavesNear (y .state .current) (runs.after y (save-call c)) l
-    → calls.savedBy (runs.run y (save-call c ∷ l) .state) (runs.run y (save-call c ∷ l) .slots) (pos (y .state .current)) ≡ record { no = 0; state = c }
+pub run-found : (y : Layer) (c : Console) (l : List Call) → WholeLayer y → runs.AllSavesNear (y .state .«current_frame») (runs.after y (save-call c)) l
+    → calls.savedBy (runs.run y (save-call c ∷ l) .state) (runs.run y (save-call c ∷ l) .slots) (pos (y .state .«current_frame»)) ≡ record { no = 0; state = c }
 unfolding runs.run runs.after
 run-found y c l h n =
     let z = runs.after y (save-call c) in
-    stands-found (runs.run z l .state) (runs.run z l .slots) (y .state .current) c
-    (run-stands z l (y .state .current) c n (save-stands (y .state .limit) (y .slots) (y .state .current) c (h .seated .ready .near) (h .deep)))
+    stands-found (runs.run z l .state) (runs.run z l .slots) (y .state .«current_frame») c
+    (run-stands z l (y .state .«current_frame») c n (save-stands (y .state .«max_prediction») (y .slots) (y .state .«current_frame») c (h .seated .ready .near) (h .deep)))

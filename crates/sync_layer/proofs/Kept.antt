@@ -9,6 +9,8 @@ use mathlib.Core.List.{List, [], _∷_}
 use lib.ListN.{length, getD, length-set}
 use lib.Dec.{eqb, ltb, leb}
 use lib.IntN.{ℤ}
+use borrow.Author.Tests.{le-leb}
+use Rattle.frame_info.specs.Choice.{pick}
 use Rattle.frame_info.proofs.Split.{split-eqb, split-ltb, split-leb, split-bool}
 use Rattle.frame_info.specs.Frame.{lastCount, maxDelay, countOf}
 use Rattle.frame_info.specs.Word.{predicted}
@@ -37,7 +39,7 @@ pub save-long : (limit : ℕ) (l : List ℕ) (f : ℕ) (c : Console) → length 
 unfolding saveSlot
 save-long limit l f c = row-long servedFrom l (slotOf limit f) (λ k. getD ((f + 1) ∷ c .head ∷ c .kind ∷ c .seal ∷ []) k 0)
 
-clear-long : (n : ℕ) (l : List ℕ) → length (clearSlots n l) ≡ length l
+pub clear-long : (n : ℕ) (l : List ℕ) → length (clearSlots n l) ≡ length l
 unfolding clearSlots
 clear-long zero l = refl
 clear-long (suc n) l = simp length-set (clear-long n l)
@@ -50,42 +52,47 @@ input-long l base s x =
     (λ a. simp (a .1))
     (split-eqb (queue.addRefusal s (countOf (x .frame))) 0)
 
-pub placed-long : (n : ℕ) (l words : List ℕ) (i : ℕ) (x : PlayerInput) → length (calls.placedWords n l words i x) ≡ length words
-unfolding calls.placedWords
-placed-long n l words i x =
-    ⊎-elim (λ a. simp (a .1) (input-long words (ringOf i) (seatAt l i) x)) (λ a. simp (a .1)) (split-eqb n 0)
+placed-long : (t : Bool) (l words : List ℕ) (i : ℕ) (x : PlayerInput) → length (pick t (calls.placedWords l words i x) words) ≡ length words
+placed-long true l words i x = input-long words (ringOf i) (seatAt l i) x
+placed-long false l words i x = refl
 
 -- One seat, and every seat
 module _ (y : LayerState) (l : List ℕ) (h : Seated y l) where
-  set-seated : (i : ℕ) (s : QueueState) → i < y .seats → Sane s → Seated y (setSeat l i s)
+  set-seated : (i : ℕ) (s : QueueState) → i < y .«num_players» → Sane s → Seated y (setSeat l i s)
   set-seated i s p k = record { ready = h .ready; room = rw (seat-long l i s) (h .room); seat = each }
     where
-      each : (j : ℕ) → j < y .seats → Sane (seatAt (setSeat l i s) j)
+      each : (j : ℕ) → j < y .«num_players» → Sane (seatAt (setSeat l i s) j)
       each j q =
           ⊎-elim
           (λ e. rw (e .0, seat-same l i s (omega (arith, h .ready .few, h .room))) k)
           (λ e. rw (seat-other l i j s (e .0)) (h .seat j q))
           (split-eqb j i)
 
-  map-seated : (g : ℕ → QueueState → QueueState) → ((i : ℕ) (q : QueueState) → Sane q → Sane (g i q)) → Seated y (mapSeats (y .seats) g l)
+  map-seated : (g : ℕ → QueueState → QueueState) → ((i : ℕ) (q : QueueState) → Sane q → Sane (g i q)) → Seated y (mapSeats (y .«num_players») g l)
   map-seated g k =
       record {
         ready = h .ready;
-        room = rw (map-long g (y .seats) l) (h .room);
-        seat = λ i p. rw (map-at g (y .seats) l i (omega (arith, h .ready .few, h .room)) p) (k i (seatAt l i) (h .seat i p));
+        room = rw (map-long g (y .«num_players») l) (h .room);
+        seat = λ i p. rw (map-at g (y .«num_players») l i (omega (arith, h .ready .few, h .room)) p) (k i (seatAt l i) (h .seat i p));
       }
 
   -- with other numbers of its own, and as many seats
-  as-seated : (z : LayerState) → z .seats ≡ y .seats → Ready z → Seated z l
+  as-seated : (z : LayerState) → z .«num_players» ≡ y .«num_players» → Ready z → Seated z l
   as-seated z e r = record { ready = r; room = h .room; seat = λ i p. h .seat i (omega (arith, e)) }
 
 -- Setup
-late-each : (l : List ℕ) → calls.allLate l ≡ true → (i : ℕ) → getD l i 0 ≤ maxDelay
-late-each [] e i = omega arith
-late-each (d ∷ l) e zero =
+-- delays in range are in range one by one, past the last too, where 0 is read
+pub range-each : (l : List ℕ) → calls.delaysInRange l ≡ true → (i : ℕ) → getD l i 0 ≤ maxDelay
+range-each [] e i = omega arith
+range-each (d ∷ l) e zero =
     ⊎-elim (λ a. a .0) (λ a. absurd (true≢false (sym e ∙ simp (a .1)))) (split-leb d maxDelay)
-late-each (d ∷ l) e (suc i) =
-    ⊎-elim (λ a. late-each l (simp (a .1) at e) i) (λ a. absurd (true≢false (sym e ∙ simp (a .1)))) (split-leb d maxDelay)
+range-each (d ∷ l) e (suc i) =
+    ⊎-elim (λ a. range-each l (simp (a .1) at e) i) (λ a. absurd (true≢false (sym e ∙ simp (a .1)))) (split-leb d maxDelay)
+
+-- and back
+pub each-range : (l : List ℕ) → ((i : ℕ) → i < length l → getD l i 0 ≤ maxDelay) → calls.delaysInRange l ≡ true
+each-range [] h = refl
+each-range (d ∷ l) h = simp (le-leb d maxDelay (h 0 (omega arith))) (each-range l (λ i p. h (suc i) (omega arith)))
 
 fresh-whole : (limit p : ℕ) (delays seats words slots : List ℕ) → Fits limit p delays → SeatRoom seats → WordRoom words → SlotRoom slots
     → Whole (calls.freshLayer (length delays) limit p) (calls.freshSeats delays seats) words slots
@@ -94,7 +101,7 @@ fresh-whole limit p delays seats words slots f a b d =
       seated = record {
         ready = record { one = f .some; few = f .few; near = f .near; guess = f .guess; early = omega arith };
         room = rw (map-long fresh (length delays) seats) a;
-        seat = λ i q. rw (map-at fresh (length delays) seats i (omega (arith, f .few)) q) (fresh-sane (getD delays i 0) (late-each delays (f .late) i));
+        seat = λ i q. rw (map-at fresh (length delays) seats i (omega (arith, f .few)) q) (fresh-sane (getD delays i 0) (range-each delays (f .late) i));
       };
       wide = b;
       deep = d;
@@ -123,7 +130,7 @@ module _ (y : LayerState) (h : Ready y) where
   advanced-ready : Ready (calls.advanced y .layer)
   unfolding calls.advanced
   advanced-ready =
-      ⊎-elim (λ a. simp (a .1) (current-ready (y .current + 1) (a .0))) (λ a. simp (a .1) h) (split-ltb (y .current + 1) lastCount)
+      ⊎-elim (λ a. simp (a .1) (current-ready (y .«current_frame» + 1) (a .0))) (λ a. simp (a .1) h) (split-ltb (y .«current_frame» + 1) lastCount)
 
   loaded-ready : (slots : List ℕ) (f : ℤ) → Ready (calls.loaded y slots f .layer)
   unfolding calls.loaded
@@ -135,8 +142,8 @@ module _ (y : LayerState) (h : Ready y) where
 
 -- what a setup fixes, no call changes
 pub record Same (y z : LayerState) : Type 0 where
-  pub seats : z .seats ≡ y .seats
-  pub limit : z .limit ≡ y .limit
+  pub seats : z .«num_players» ≡ y .«num_players»
+  pub limit : z .«max_prediction» ≡ y .«max_prediction»
   pub predictor : z .predictor ≡ y .predictor
 
 same : (y : LayerState) → Same y y
@@ -148,7 +155,7 @@ current-same y f = record { seats = refl; limit = refl; predictor = refl }
 advanced-same : (y : LayerState) → Same y (calls.advanced y .layer)
 unfolding calls.advanced
 advanced-same y =
-    ⊎-elim (λ a. simp (a .1) (current-same y (y .current + 1))) (λ a. simp (a .1) (same y)) (split-ltb (y .current + 1) lastCount)
+    ⊎-elim (λ a. simp (a .1) (current-same y (y .«current_frame» + 1))) (λ a. simp (a .1) (same y)) (split-ltb (y .«current_frame» + 1) lastCount)
 
 loaded-same : (y : LayerState) (slots : List ℕ) (f : ℤ) → Same y (calls.loaded y slots f .layer)
 unfolding calls.loaded
@@ -168,14 +175,14 @@ confirmed-same y l f sparse =
 
 -- Inputs
 module _ (y : LayerState) (l : List ℕ) (h : Seated y l) where
-  placed-seated : (n : ℕ) (words : List ℕ) (i : ℕ) (x : PlayerInput) → WordRoom words → (n ≡ 0 → i < y .seats) → Seated y (calls.placedSeats n l words i x)
-  unfolding calls.placedSeats
+  placed-seated : (n : ℕ) (words : List ℕ) (i : ℕ) (x : PlayerInput) → WordRoom words → (n ≡ 0 → i < y .«num_players»)
+      → Seated y (pick (eqb n 0) (calls.placedSeats l words i x) l)
   placed-seated n words i x w p =
       ⊎-elim
-      (λ a. simp (a .1)
+      (λ a. rw (a .1)
       (set-seated y l h i (queue.addInput words (ringOf i) (seatAt l i) x .state) (p (a .0))
       (add-whole words (ringOf i) (seatAt l i) (seated-whole y l h i (p (a .0)) (seatAt l i) refl words w) x .numbers)))
-      (λ a. simp (a .1) h)
+      (λ a. rw (a .1) h)
       (split-eqb n 0)
 
   delayed-seated : (words : List ℕ) (i d : ℕ) → WordRoom words → Seated y (calls.delayedSeats y l words i d)
@@ -186,7 +193,7 @@ module _ (y : LayerState) (l : List ℕ) (h : Seated y l) where
       (set-seated y l h i (queue.delayedTo words (ringOf i) (seatAt l i) d .state) (a .0)
       (delayed-whole words (ringOf i) (seatAt l i) (seated-whole y l h i (a .0) (seatAt l i) refl words w) d .numbers)))
       (λ a. simp (a .1) h)
-      (split-ltb i (y .seats))
+      (split-ltb i (y .«num_players»))
 
   reset-seated : Seated y (calls.resetSeats y l)
   reset-seated = map-seated y l h (λ i q. reset q) (λ i q k. reset-sane q k)
@@ -203,22 +210,22 @@ module _ (y : LayerState) (l : List ℕ) (h : Seated y l) where
       asks i q k =
           ⊎-elim
           (λ e. rw e k)
-          (λ e. rw e (asked-sane (predicted (y .predictor)) (wordAt words (ringOf i)) q (y .current) k))
-          (split-bool (calls.goneBelow (y .current) gone last i))
+          (λ e. rw e (asked-sane (predicted (y .predictor)) (wordAt words (ringOf i)) q (y .«current_frame») k))
+          (split-bool (calls.goneBelow (y .«current_frame») gone last i))
 
   -- Confirm
-  discard-seated : (c : ℕ) → Seated y (calls.discardSeats y c l)
-  discard-seated c =
+  discard-seated : (f : ℕ) → Seated y (calls.discardBelow y f l)
+  discard-seated f =
       ⊎-elim
+      (λ a. simp (a .1) (map-seated y l h (λ i q. discard q (f - 1)) (λ i q k. discard-sane q (f - 1) k)))
       (λ a. simp (a .1) h)
-      (λ a. simp (a .1) (map-seated y l h (λ i q. discard q (c - 2)) (λ i q k. discard-sane q (c - 2) k)))
-      (split-ltb c 2)
+      (split-ltb 0 f)
 
   confirmed-seated : (f : ℤ) (sparse : Bool) → Seated (calls.confirmed y l f sparse .layer) (calls.confirmedSeats y l f sparse)
   unfolding calls.confirmed calls.confirmedSeats
   confirmed-seated f sparse =
       ⊎-elim
-      (λ a. simp (a .1) (as-seated y (calls.discardSeats y cap l) (discard-seated cap) (calls.withConfirmed y cap) refl ready))
+      (λ a. simp (a .1) (as-seated y (calls.discardBelow y (cap - 1) l) (discard-seated (cap - 1)) (calls.withConfirmed y cap) refl ready))
       (λ a. simp (a .1) h)
       (split-eqb (calls.confirmRefusal y l (countOf f) sparse) 0)
     where
@@ -230,19 +237,19 @@ module _ (y : LayerState) (l : List ℕ) (h : Seated y l) where
 
 -- So it holds after every call, and after any run of them.
 module _ (y : Layer) (h : WholeLayer y) where
-  inputs-whole : (n i : ℕ) (x : PlayerInput) → (n ≡ 0 → i < y .state .seats)
-      → WholeLayer (runs.withQueues y (calls.placedSeats n (y .seats) (y .words) i x) (calls.placedWords n (y .seats) (y .words) i x))
+  inputs-whole : (n i : ℕ) (x : PlayerInput) → (n ≡ 0 → i < y .state .«num_players»)
+      → WholeLayer (runs.withQueues y (pick (eqb n 0) (calls.placedSeats (y .seats) (y .words) i x) (y .seats)) (pick (eqb n 0) (calls.placedWords (y .seats) (y .words) i x) (y .words)))
   inputs-whole n i x p =
       record {
         seated = placed-seated (y .state) (y .seats) (h .seated) n (y .words) i x (h .wide) p;
-        wide = rw (placed-long n (y .seats) (y .words) i x) (h .wide);
+        wide = rw (placed-long (eqb n 0) (y .seats) (y .words) i x) (h .wide);
         deep = h .deep;
       }
 
   seats-whole : (l : List ℕ) → Seated (y .state) l → WholeLayer (runs.withQueues y l (y .words))
   seats-whole l k = record { seated = k; wide = h .wide; deep = h .deep }
 
-  state-whole : (z : LayerState) → z .seats ≡ y .state .seats → Ready z → WholeLayer (runs.withState y z)
+  state-whole : (z : LayerState) → z .«num_players» ≡ y .state .«num_players» → Ready z → WholeLayer (runs.withState y z)
   state-whole z e r = record { seated = as-seated (y .state) (y .seats) (h .seated) z e r; wide = h .wide; deep = h .deep }
 
 pub after-same : (y : Layer) (x : Call) → Same (y .state) (runs.after y x .state)
@@ -258,7 +265,7 @@ after-same y (request-call gone last) = same (y .state)
 after-same y (confirm-call f sparse) = confirmed-same (y .state) (y .seats) f sparse
 
 pub after-whole : (y : Layer) (x : Call) → WholeLayer y → WholeLayer (runs.after y x)
-unfolding runs.after
+unfolding runs.after calls.localSeats calls.localWords calls.remoteSeats calls.remoteWords
 after-whole y advance-call h =
     state-whole y h (calls.advanced (y .state) .layer) (advanced-same (y .state) .seats) (advanced-ready (y .state) (h .seated .ready))
 after-whole y (save-call c) h =
@@ -267,7 +274,7 @@ after-whole y (save-call c) h =
       seated = as-seated (y .state) (y .seats) (h .seated) (calls.savedLayer (y .state)) refl
           (record { one = r .one; few = r .few; near = r .near; guess = r .guess; early = r .early });
       wide = h .wide;
-      deep = rw (save-long (y .state .limit) (y .slots) (y .state .current) c) (h .deep);
+      deep = rw (save-long (y .state .«max_prediction») (y .slots) (y .state .«current_frame») c) (h .deep);
     }
 after-whole y (load-call f) h =
     state-whole y h (calls.loaded (y .state) (y .slots) f .layer) (loaded-same (y .state) (y .slots) f .seats) (loaded-ready (y .state) (h .seated .ready) (y .slots) f)

@@ -35,20 +35,20 @@ seat-other l i j s d =
 -- as the code reads and writes them
 pub seat-read : (l : List ℕ) (i : ℕ)
     → record {
-      delay = getD l (i * seatWords) 0;
-      user = getD l (i * seatWords + 1) 0;
-      added = getD l (i * seatWords + 2) 0;
+      «frame_delay» = getD l (i * seatWords) 0;
+      «last_user_count» = getD l (i * seatWords + 1) 0;
+      «last_added_count» = getD l (i * seatWords + 2) 0;
       oldest = getD l (i * seatWords + 3) 0;
-      requested = getD l (i * seatWords + 4) 0;
-      predicting = getD l (i * seatWords + 5) 0;
-      guess = getD l (i * seatWords + 6) 0;
-      wrong = getD l (i * seatWords + 7) 0;
+      «last_requested_count» = getD l (i * seatWords + 4) 0;
+      «prediction_count» = getD l (i * seatWords + 5) 0;
+      prediction = getD l (i * seatWords + 6) 0;
+      «first_incorrect_count» = getD l (i * seatWords + 7) 0;
     } ≡ seatAt l i
 unfolding seatAt
 seat-read l i = simp add-zero
 
 pub seat-written : (l : List ℕ) (i : ℕ) (s : QueueState)
-    → set (set (set (set (set (set (set (set l (i * seatWords) (s .delay)) (i * seatWords + 1) (s .user)) (i * seatWords + 2) (s .added)) (i * seatWords + 3) (s .oldest)) (i * seatWords + 4) (s .requested)) (i * seatWords + 5) (s .predicting)) (i * seatWords + 6) (s .guess)) (i * seatWords + 7) (s .wrong)
+    → set (set (set (set (set (set (set (set l (i * seatWords) (s .«frame_delay»)) (i * seatWords + 1) (s .«last_user_count»)) (i * seatWords + 2) (s .«last_added_count»)) (i * seatWords + 3) (s .oldest)) (i * seatWords + 4) (s .«last_requested_count»)) (i * seatWords + 5) (s .«prediction_count»)) (i * seatWords + 6) (s .prediction)) (i * seatWords + 7) (s .«first_incorrect_count»)
     ≡ setSeat l i s
 unfolding setSeat writeRow
 seat-written l i s = simp add-zero

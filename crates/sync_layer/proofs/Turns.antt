@@ -13,7 +13,7 @@ use Rattle.input_queue.specs.declared.QueueState.{QueueState}
 use Rattle.sync_layer.specs.Lists.{lower, lowestOf}
 use Rattle.sync_layer.specs.Seats.{seatWords, seatAt, setSeat, mapSeats}
 use Rattle.sync_layer.specs.Slots.{within, highestIn, clearSlots, slotWords}
-use Rattle.sync_layer.specs.Calls.{allLate}
+use Rattle.sync_layer.specs.Calls.{delaysInRange}
 use Rattle.sync_layer.proofs.Seating.{seat-long, map-past, map-long}
 
 -- every seat so far
@@ -50,26 +50,26 @@ module _ (h : ℕ → QueueState → QueueState) (n : ℕ) where
 pub ruleset mapping = (mapped-start, mapped-set, mapped-turn, mapped-end)
 
 -- the delays so far are within range
-pub record Late (l : List ℕ) (i : ℕ) : Type 0 where
+pub record InRange (l : List ℕ) (i : ℕ) : Type 0 where
   pub upto : i ≤ length l
-  pub rest : allLate (drop i l) ≡ allLate l
+  pub rest : delaysInRange (drop i l) ≡ delaysInRange l
 
 module _ (l : List ℕ) where
-  pub late-start : Late l 0
-  late-start = record { upto = omega arith; rest = refl }
+  pub range-start : InRange l 0
+  range-start = record { upto = omega arith; rest = refl }
 
-  module _ (i : ℕ) (m : Late l i) where
-    pub late-turn : i < length l → getD l i 0 ≤ maxDelay → Late l (i + 1)
-    late-turn p q =
+  module _ (i : ℕ) (m : InRange l i) where
+    pub range-turn : i < length l → getD l i 0 ≤ maxDelay → InRange l (i + 1)
+    range-turn p q =
         record { upto = omega arith; rest = rw add-one (simp (le-leb _ _ q) at (rw (drop-cons l i 0 p) at (m .rest))) }
 
-    pub late-not : i < length l → maxDelay < getD l i 0 → false ≡ allLate l
-    late-not p q = simp (lt-leb _ _ q) at (rw (drop-cons l i 0 p) at (m .rest))
+    pub range-not : i < length l → maxDelay < getD l i 0 → false ≡ delaysInRange l
+    range-not p q = simp (lt-leb _ _ q) at (rw (drop-cons l i 0 p) at (m .rest))
 
-    pub late-end : length l ≤ i → true ≡ allLate l
-    late-end p = rw (drop-of-length-le l p) at (m .rest)
+    pub range-end : length l ≤ i → true ≡ delaysInRange l
+    range-end p = rw (drop-of-length-le l p) at (m .rest)
 
-pub ruleset lateness = (late-start, late-turn, late-not, late-end)
+pub ruleset ranging = (range-start, range-turn, range-not, range-end)
 
 -- the lowest so far
 pub record Lowest (n : ℕ) (g : ℕ → ℕ) (m i : ℕ) : Type 0 where
@@ -96,13 +96,10 @@ module _ (a b : ℕ) where
   pub lower-right : (a ≡ 0 → ⊥) → b ≡ 0 → a ≡ lower a b
   lower-right p q = simp (ne-eqb _ _ p, eq-eqb _ _ q)
 
-  pub lower-first : (a ≡ 0 → ⊥) → (b ≡ 0 → ⊥) → a ≤ b → a ≡ lower a b
-  lower-first p q r = simp (ne-eqb _ _ p, ne-eqb _ _ q) (omega arith)
+  pub lower-both : (m : ℕ) → (a ≡ 0 → ⊥) → (b ≡ 0 → ⊥) → m ≡ min a b → m ≡ lower a b
+  lower-both m p q r = simp (ne-eqb _ _ p, ne-eqb _ _ q) r
 
-  pub lower-second : (a ≡ 0 → ⊥) → (b ≡ 0 → ⊥) → b < a → b ≡ lower a b
-  lower-second p q r = simp (ne-eqb _ _ p, ne-eqb _ _ q) (omega arith)
+pub seat-wrong : (l : List ℕ) (i : ℕ) (s : QueueState) → s ≡ seatAt l i → s .«first_incorrect_count» ≡ seatAt l i .«first_incorrect_count»
+seat-wrong l i s e = ap (λ (q : QueueState). q .«first_incorrect_count») e
 
-pub seat-wrong : (l : List ℕ) (i : ℕ) (s : QueueState) → s ≡ seatAt l i → s .wrong ≡ seatAt l i .wrong
-seat-wrong l i s e = ap (λ (q : QueueState). q .wrong) e
-
-pub ruleset lowering = (lowest-start, lowest-turn, lowest-end, lower-left, lower-right, lower-first, lower-second, seat-wrong)
+pub ruleset lowering = (lowest-start, lowest-turn, lowest-end, lower-left, lower-right, lower-both, seat-wrong)

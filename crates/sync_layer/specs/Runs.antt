@@ -45,7 +45,7 @@ after y (save-call c) =
       state = calls.savedLayer (y .state);
       seats = y .seats;
       words = y .words;
-      slots = saveSlot (y .state .limit) (y .slots) (y .state .current) c;
+      slots = saveSlot (y .state .«max_prediction») (y .slots) (y .state .«current_frame») c;
     }
 after y (load-call f) = withState y (calls.loaded (y .state) (y .slots) f .layer)
 after y (local-call i x) =
@@ -86,7 +86,7 @@ saveAll limit l f (c ∷ cs) = saveAll limit (saveSlot limit l f c) (f + 1) cs
 -- a save, if the call is one, is of one of the limit frames after f; and so each save of a run
 unfoldable pub SavesNear : ℕ → Layer → Call → Type 0
 SavesNear f y advance-call = Unit
-SavesNear f y (save-call c) = (f < y .state .current) × (y .state .current ≤ f + y .state .limit)
+SavesNear f y (save-call c) = (f < y .state .«current_frame») × (y .state .«current_frame» ≤ f + y .state .«max_prediction»)
 SavesNear f y (load-call g) = Unit
 SavesNear f y (local-call i x) = Unit
 SavesNear f y (remote-call i x) = Unit

@@ -19,19 +19,27 @@ ringOf i = i * queueLength
 
 abbrev pub numbersOf : QueueState → List ℕ
 numbersOf s =
-    s .delay ∷ s .user ∷ s .added ∷ s .oldest ∷ s .requested ∷ s .predicting ∷ s .guess ∷ s .wrong ∷ []
+    s .«frame_delay»
+    ∷ s .«last_user_count»
+    ∷ s .«last_added_count»
+    ∷ s .oldest
+    ∷ s .«last_requested_count»
+    ∷ s .«prediction_count»
+    ∷ s .prediction
+    ∷ s .«first_incorrect_count»
+    ∷ []
 
 abbrev pub queueOf : (ℕ → ℕ) → QueueState
 queueOf g =
     record {
-      delay = g 0;
-      user = g 1;
-      added = g 2;
+      «frame_delay» = g 0;
+      «last_user_count» = g 1;
+      «last_added_count» = g 2;
       oldest = g 3;
-      requested = g 4;
-      predicting = g 5;
-      guess = g 6;
-      wrong = g 7;
+      «last_requested_count» = g 4;
+      «prediction_count» = g 5;
+      prediction = g 6;
+      «first_incorrect_count» = g 7;
     }
 
 unfoldable pub seatAt : List ℕ → ℕ → QueueState

@@ -1,6 +1,5 @@
 -- What a call presumes of a layer: bounds that a setup gives and that every call keeps. Each call asks for the lists that it is lent.
 use Prim.Native.Nat.{ℕ, suc, _+_, _*_, _≤_, _<_}
-use mathlib.Core.Path.{_≡_}
 use mathlib.Core.List.{List}
 use lib.ListN.{length}
 use Rattle.frame_info.specs.Frame.{lastCount, predictors}
@@ -23,26 +22,26 @@ SlotRoom l = suc maxLimit * slotWords ≤ length l
 
 -- the layer's own numbers
 pub record Ready (y : LayerState) : Type 0 where
-  pub one : 0 < y .seats
-  pub few : y .seats ≤ maxSeats
-  pub near : y .limit ≤ maxLimit
+  pub one : 0 < y .«num_players»
+  pub few : y .«num_players» ≤ maxSeats
+  pub near : y .«max_prediction» ≤ maxLimit
   pub guess : y .predictor < predictors
-  pub early : y .current < lastCount
+  pub early : y .«current_frame» < lastCount
 
 -- and its seats'
 pub record Seated (y : LayerState) (seats : List ℕ) : Type 0 where
   pub ready : Ready y
   pub room : SeatRoom seats
-  pub seat : (i : ℕ) → i < y .seats → Sane (seatAt seats i)
+  pub seat : (i : ℕ) → i < y .«num_players» → Sane (seatAt seats i)
 
--- what it takes to place an input that number n does not refuse
-pub record Places (seats words : List ℕ) (n i : ℕ) : Type 0 where
-  pub room : (n ≡ 0) → (i + 1) * seatWords ≤ length seats
-  pub whole : (n ≡ 0) → queue.Whole words (ringOf i) (seatAt seats i)
+-- what it takes to place an input in seat i's queue
+pub record Places (seats words : List ℕ) (i : ℕ) : Type 0 where
+  pub room : (i + 1) * seatWords ≤ length seats
+  pub whole : queue.Whole words (ringOf i) (seatAt seats i)
 
 -- what it takes to ask seat i
 pub record Serves (y : LayerState) (seats words : List ℕ) (i : ℕ) : Type 0 where
-  pub early : y .current < lastCount
+  pub early : y .«current_frame» < lastCount
   pub room : (i + 1) * seatWords ≤ length seats
   pub whole : queue.Whole words (ringOf i) (seatAt seats i)
 

@@ -3,15 +3,19 @@
 // A layer is six numbers, `LayerState`, that go by value, and three lists of numbers that the
 // caller lends: the seats' queues, their words, and the saved slots. Each call takes only those
 // that it touches, and tests for itself. One that refuses answers its number, the layer as it was
-// given, and writes nothing. The crate `sync_layer_value` has the same layer with its lists inside.
+// given, and writes nothing; a refused setup alone hands back a fresh layer, and so writes its one
+// seat and its one slot. The crate `sync_layer_value` has the same layer with its lists inside.
 mod seats;
 mod serving;
 mod slots;
 
 use console::Console;
+use frame_info::BLANK;
+use frame_info::NULL_FRAME;
 use frame_info::PlayerInput;
 use frame_info::count_of;
 use frame_info::frame_of;
+use frame_info::lesser;
 use input_queue::INPUT_QUEUE_LENGTH;
 pub use seats::discard_seats;
 pub use seats::lowest_wrong;
@@ -20,6 +24,7 @@ pub use seats::seat_at;
 pub use seats::set_seat;
 pub use serving::confirmed_inputs;
 pub use serving::synchronized_inputs;
+pub use serving::synchronized_inputs_into;
 pub use slots::count_in;
 pub use slots::save_slot;
 pub use slots::slot_of;
@@ -41,15 +46,25 @@ pub const SEAT_WORDS: usize = 8;
 
 pub const SLOT_WORDS: usize = 16;
 
+// Where the words that the desk served begin in a slot, after the frame and the state.
+pub const SERVED_FROM: usize = 4;
+
+// How many numbers each of the lent lists has.
+pub const SEATS_LENGTH: usize = MAX_SEATS * SEAT_WORDS;
+
+pub const WORDS_LENGTH: usize = MAX_SEATS * INPUT_QUEUE_LENGTH;
+
+pub const SLOTS_LENGTH: usize = (MAX_LIMIT as usize + 1) * SLOT_WORDS;
+
 pub struct LayerState {
-    pub seats: u32,
-    pub limit: u32,
+    pub num_players: u32,
+    pub max_prediction: u32,
     pub predictor: u32,
     // The current frame, as itself.
-    pub current: u32,
+    pub current_frame: u32,
     // The last saved and the last confirmed frame, as counts.
-    pub saved: u32,
-    pub confirmed: u32,
+    pub last_saved_count: u32,
+    pub last_confirmed_count: u32,
 }
 
 pub struct Opened {
@@ -58,6 +73,11 @@ pub struct Opened {
 }
 
 pub struct Advanced {
+    pub no: u32,
+    pub layer: LayerState,
+}
+
+pub struct Confirmed {
     pub no: u32,
     pub layer: LayerState,
 }
@@ -90,8 +110,8 @@ pub struct Announced {
     pub word: u32,
 }
 
-fn all_late(delays: &[u32]) -> bool
-    ensures { λ r. ⌜ r ≡ calls.allLate (now (delays .entry)) ⌝ }
+fn delays_in_range(delays: &[u32]) -> bool
+    ensures { λ r. ⌜ r ≡ calls.delaysInRange (now (delays .entry)) ⌝ }
 {
     let mut i = 0;
     while i < delays.len() {
@@ -119,19 +139,19 @@ fn fits(limit: u32, predictor: u32, delays: &[u32]) -> bool
     if predictor >= frame_info::PREDICTORS {
         return false;
     }
-    all_late(delays)
+    delays_in_range(delays)
 }
 
 fn fresh_layer(seats: u32, limit: u32, predictor: u32) -> LayerState
     ensures { λ r. ⌜ r ≡ calls.freshLayer seats limit predictor ⌝ }
 {
     LayerState {
-        seats,
-        limit,
+        num_players: seats,
+        max_prediction: limit,
         predictor,
-        current: 0,
-        saved: 0,
-        confirmed: 0,
+        current_frame: 0,
+        last_saved_count: 0,
+        last_confirmed_count: 0,
     }
 }
 
@@ -170,33 +190,33 @@ pub fn current_frame(layer: LayerState) -> i32
     requires { ⌜ Ready layer ⌝ }
     ensures { λ r. ⌜ r ≡ calls.currentFrame layer ⌝ }
 {
-    frame_of(layer.current + 1)
+    frame_of(layer.current_frame + 1)
 }
 
 // -1 where nothing is saved.
 pub fn last_saved_frame(layer: LayerState) -> i32
     ensures { λ r. ⌜ r ≡ calls.lastSaved layer ⌝ }
 {
-    frame_of(layer.saved)
+    frame_of(layer.last_saved_count)
 }
 
 // -1 where nothing is confirmed.
 pub fn last_confirmed_frame(layer: LayerState) -> i32
     ensures { λ r. ⌜ r ≡ calls.lastConfirmed layer ⌝ }
 {
-    frame_of(layer.confirmed)
+    frame_of(layer.last_confirmed_count)
 }
 
 fn with_current(layer: LayerState, frame: u32) -> LayerState
     ensures { λ r. ⌜ r ≡ calls.withCurrent layer frame ⌝ }
 {
     LayerState {
-        seats: layer.seats,
-        limit: layer.limit,
+        num_players: layer.num_players,
+        max_prediction: layer.max_prediction,
         predictor: layer.predictor,
-        current: frame,
-        saved: layer.saved,
-        confirmed: layer.confirmed,
+        current_frame: frame,
+        last_saved_count: layer.last_saved_count,
+        last_confirmed_count: layer.last_confirmed_count,
     }
 }
 
@@ -205,7 +225,7 @@ pub fn advance_frame(layer: LayerState) -> Advanced
     requires { ⌜ Ready layer ⌝ }
     ensures { λ r. ⌜ r ≡ calls.advanced layer ⌝ }
 {
-    let next = layer.current + 1;
+    let next = layer.current_frame + 1;
     if next < frame_info::LAST_COUNT {
         return Advanced {
             no: 0,
@@ -222,17 +242,17 @@ pub fn advance_frame(layer: LayerState) -> Advanced
 pub fn save_current_state(slots: &mut [u32], layer: LayerState, state: Console) -> LayerState
     requires { ⌜ Ready layer × SlotRoom (now slots) ⌝ }
     ensures { λ r. ⌜ (r ≡ calls.savedLayer layer)
-        × (now (slots .exit) ≡ saveSlot (layer .limit) (now (slots .entry)) (layer .current) state) ⌝ }
+        × (now (slots .exit) ≡ saveSlot (layer .«max_prediction») (now (slots .entry)) (layer .«current_frame») state) ⌝ }
 {
-    let current = layer.current;
-    save_slot(slots, layer.limit, current, state);
+    let current = layer.current_frame;
+    save_slot(slots, layer.max_prediction, current, state);
     LayerState {
-        seats: layer.seats,
-        limit: layer.limit,
+        num_players: layer.num_players,
+        max_prediction: layer.max_prediction,
         predictor: layer.predictor,
-        current,
-        saved: current + 1,
-        confirmed: layer.confirmed,
+        current_frame: current,
+        last_saved_count: current + 1,
+        last_confirmed_count: layer.last_confirmed_count,
     }
 }
 
@@ -251,13 +271,13 @@ fn load_refusal(slots: &[u32], layer: LayerState, count: u32) -> u32
     if count == 0 {
         return frame_info::refusal::FRAME_BELOW_ZERO;
     }
-    if layer.current < count {
+    if layer.current_frame < count {
         return frame_info::refusal::LOAD_NOT_PAST;
     }
-    if count + layer.limit <= layer.current {
+    if count + layer.max_prediction <= layer.current_frame {
         return frame_info::refusal::LOAD_TOO_OLD;
     }
-    if slot_holds(slots, layer.limit, count) {
+    if slot_holds(slots, layer.max_prediction, count) {
         return 0;
     }
     frame_info::refusal::SLOT_HOLDS_ANOTHER
@@ -279,7 +299,7 @@ pub fn load_frame(slots: &[u32], layer: LayerState, frame: i32) -> Loaded
     }
     Loaded {
         no: 0,
-        state: state_in(slots, layer.limit, count - 1),
+        state: state_in(slots, layer.max_prediction, count - 1),
         layer: with_current(layer, count - 1),
     }
 }
@@ -304,7 +324,7 @@ pub fn saved_state_by_frame(slots: &[u32], layer: LayerState, frame: i32) -> Sav
     ensures { λ r. ⌜ r ≡ calls.savedBy layer (now (slots .entry)) frame ⌝ }
 {
     let count = count_of(frame);
-    let no = saved_refusal(slots, layer.limit, count);
+    let no = saved_refusal(slots, layer.max_prediction, count);
     if no != 0 {
         return Saved {
             no,
@@ -313,7 +333,7 @@ pub fn saved_state_by_frame(slots: &[u32], layer: LayerState, frame: i32) -> Sav
     }
     Saved {
         no: 0,
-        state: state_in(slots, layer.limit, count - 1),
+        state: state_in(slots, layer.max_prediction, count - 1),
     }
 }
 
@@ -327,16 +347,16 @@ pub fn latest_saved_state_in_range(slots: &[u32], layer: LayerState, start: i32,
     if low == 0 {
         return Latest {
             no: frame_info::refusal::FRAME_BELOW_ZERO,
-            frame: -1,
+            frame: NULL_FRAME,
         };
     }
     if high == 0 {
         return Latest {
             no: frame_info::refusal::FRAME_BELOW_ZERO,
-            frame: -1,
+            frame: NULL_FRAME,
         };
     }
-    let n = layer.limit as usize + 1;
+    let n = layer.max_prediction as usize + 1;
     Latest {
         no: 0,
         frame: frame_of(slots::highest_in(slots, n, low, high)),
@@ -348,7 +368,7 @@ fn remote_refusal(seats: &[u32], layer: LayerState, seat: u32, count: u32) -> u3
     requires { ⌜ Seated layer (now seats) ⌝ }
     ensures { λ r. ⌜ r ≡ calls.remoteRefusal layer (now (seats .entry)) seat count ⌝ }
 {
-    if seat < layer.seats {
+    if seat < layer.num_players {
         return input_queue::add_refusal(seat_at(seats, seat as usize), count);
     }
     frame_info::refusal::NO_SUCH_SEAT
@@ -359,7 +379,7 @@ fn local_refusal(seats: &[u32], layer: LayerState, seat: u32, count: u32) -> u32
     requires { ⌜ Seated layer (now seats) ⌝ }
     ensures { λ r. ⌜ r ≡ calls.localRefusal layer (now (seats .entry)) seat count ⌝ }
 {
-    if seat >= layer.seats {
+    if seat >= layer.num_players {
         return frame_info::refusal::NO_SUCH_SEAT;
     }
     if count == 0 {
@@ -368,36 +388,24 @@ fn local_refusal(seats: &[u32], layer: LayerState, seat: u32, count: u32) -> u32
     if count > frame_info::LAST_COUNT {
         return frame_info::refusal::FRAME_TOO_HIGH;
     }
-    if count != layer.current + 1 {
+    if count != layer.current_frame + 1 {
         return frame_info::refusal::NOT_CURRENT_FRAME;
     }
     input_queue::add_refusal(seat_at(seats, seat as usize), count)
 }
 
-// Seat i's queue takes an input that no number refuses.
-fn place_input(
-    seats: &mut [u32],
-    words: &mut [u32],
-    no: u32,
-    seat: usize,
-    input: PlayerInput,
-) -> Placed
-    requires { ⌜ Places (now seats) (now words) no seat ⌝ }
-    ensures { λ r. ⌜ (r ≡ calls.placed no (now (seats .entry)) (now (words .entry)) seat input)
-        × (now (seats .exit) ≡ calls.placedSeats no (now (seats .entry)) (now (words .entry)) seat input)
-        × (now (words .exit) ≡ calls.placedWords no (now (seats .entry)) (now (words .entry)) seat input) ⌝ }
+// Seat i's queue takes an input that is not refused. Answers its place.
+fn place_input(seats: &mut [u32], words: &mut [u32], seat: usize, input: PlayerInput) -> i32
+    requires { ⌜ Places (now seats) (now words) seat ⌝ }
+    ensures { λ r. ⌜ (r ≡ calls.placed (now (seats .entry)) (now (words .entry)) seat input .place)
+        × (now (seats .exit) ≡ calls.placedSeats (now (seats .entry)) (now (words .entry)) seat input)
+        × (now (words .exit) ≡ calls.placedWords (now (seats .entry)) (now (words .entry)) seat input) ⌝ }
 {
-    if no != 0 {
-        return Placed { no, place: -1 };
-    }
     let s = seat_at(&seats[..], seat);
     let added = input_queue::add_input(words, seat * INPUT_QUEUE_LENGTH, s, input);
     let state = added.state;
     set_seat(seats, seat, state);
-    Placed {
-        no: 0,
-        place: added.place,
-    }
+    added.place
 }
 
 // A far hand's input: 2, 7, 6, 3, 4.
@@ -414,7 +422,14 @@ pub fn add_remote_input(
         × (now (words .exit) ≡ calls.remoteWords layer (now (seats .entry)) (now (words .entry)) seat input) ⌝ }
 {
     let no = remote_refusal(&seats[..], layer, seat, count_of(input.frame));
-    place_input(seats, words, no, seat as usize, input)
+    if no != 0 {
+        return Placed {
+            no,
+            place: NULL_FRAME,
+        };
+    }
+    let place = place_input(seats, words, seat as usize, input);
+    Placed { no: 0, place }
 }
 
 // A near hand's input, for the current frame: 2, 7, 6, 12, 3, 4.
@@ -431,7 +446,14 @@ pub fn add_local_input(
         × (now (words .exit) ≡ calls.localWords layer (now (seats .entry)) (now (words .entry)) seat input) ⌝ }
 {
     let no = local_refusal(&seats[..], layer, seat, count_of(input.frame));
-    place_input(seats, words, no, seat as usize, input)
+    if no != 0 {
+        return Placed {
+            no,
+            place: NULL_FRAME,
+        };
+    }
+    let place = place_input(seats, words, seat as usize, input);
+    Placed { no: 0, place }
 }
 
 // Another delay for a seat: 2, 1.
@@ -446,12 +468,12 @@ pub fn set_frame_delay(
     ensures { λ r. ⌜ (r ≡ calls.delayedTo layer (now (seats .entry)) (now (words .entry)) seat delay)
         × (now (seats .exit) ≡ calls.delayedSeats layer (now (seats .entry)) (now (words .entry)) seat delay) ⌝ }
 {
-    if seat >= layer.seats {
+    if seat >= layer.num_players {
         return Announced {
             no: frame_info::refusal::NO_SUCH_SEAT,
-            first: -1,
+            first: NULL_FRAME,
             count: 0,
-            word: 0,
+            word: BLANK,
         };
     }
     let i = seat as usize;
@@ -471,21 +493,15 @@ pub fn reset_prediction(seats: &mut [u32], layer: LayerState)
     requires { ⌜ Seated layer (now seats) ⌝ }
     ensures { λ _. ⌜ now (seats .exit) ≡ calls.resetSeats layer (now (seats .entry)) ⌝ }
 {
-    reset_seats(seats, layer.seats as usize);
+    reset_seats(seats, layer.num_players as usize);
 }
 
 // The lowest mismatch, -1 where there is none.
 pub fn check_simulation_consistency(seats: &[u32], layer: LayerState) -> i32
     requires { ⌜ Seated layer (now seats) ⌝ }
-    ensures { λ r. ⌜ r ≡ calls.inconsistent layer (now (seats .entry)) ⌝ }
+    ensures { λ r. ⌜ r ≡ calls.lowestMismatch layer (now (seats .entry)) ⌝ }
 {
-    frame_of(lowest_wrong(seats, layer.seats as usize))
-}
-
-fn least(a: u32, b: u32) -> u32
-    ensures { λ r. ⌜ r ≡ Prim.Native.Nat.min a b ⌝ }
-{
-    if a < b { a } else { b }
+    frame_of(lowest_wrong(seats, layer.num_players as usize))
 }
 
 // What a confirm comes to after its caps, as a count.
@@ -493,12 +509,11 @@ fn confirm_cap(layer: LayerState, count: u32, sparse: bool) -> u32
     requires { ⌜ Ready layer ⌝ }
     ensures { λ r. ⌜ r ≡ calls.confirmCap layer count sparse ⌝ }
 {
-    let next = layer.current + 1;
-    let capped = least(count, next);
+    let next = layer.current_frame + 1;
     if sparse {
-        return least(capped, layer.saved);
+        return lesser(lesser(count, layer.last_saved_count), next);
     }
-    least(capped, next)
+    lesser(count, next)
 }
 
 // The number by which a confirm is refused, 0 for none.
@@ -509,7 +524,7 @@ fn confirm_refusal(seats: &[u32], layer: LayerState, count: u32, cap: u32) -> u3
     if count == 0 {
         return frame_info::refusal::FRAME_BELOW_ZERO;
     }
-    let wrong = lowest_wrong(seats, layer.seats as usize);
+    let wrong = lowest_wrong(seats, layer.num_players as usize);
     if wrong == 0 {
         return 0;
     }
@@ -523,12 +538,12 @@ fn with_confirmed(layer: LayerState, count: u32) -> LayerState
     ensures { λ r. ⌜ r ≡ calls.withConfirmed layer count ⌝ }
 {
     LayerState {
-        seats: layer.seats,
-        limit: layer.limit,
+        num_players: layer.num_players,
+        max_prediction: layer.max_prediction,
         predictor: layer.predictor,
-        current: layer.current,
-        saved: layer.saved,
-        confirmed: count,
+        current_frame: layer.current_frame,
+        last_saved_count: layer.last_saved_count,
+        last_confirmed_count: count,
     }
 }
 
@@ -538,7 +553,7 @@ pub fn set_last_confirmed_frame(
     layer: LayerState,
     frame: i32,
     sparse: bool,
-) -> Advanced
+) -> Confirmed
     requires { ⌜ Seated layer (now seats) ⌝ }
     ensures { λ r. ⌜ (r ≡ calls.confirmed layer (now (seats .entry)) frame sparse)
         × (now (seats .exit) ≡ calls.confirmedSeats layer (now (seats .entry)) frame sparse) ⌝ }
@@ -547,17 +562,17 @@ pub fn set_last_confirmed_frame(
     let cap = confirm_cap(layer, count, sparse);
     let no = confirm_refusal(&seats[..], layer, count, cap);
     if no != 0 {
-        return Advanced { no, layer };
+        return Confirmed { no, layer };
     }
     let confirmed = with_confirmed(layer, cap);
     if cap < 2 {
-        return Advanced {
+        return Confirmed {
             no: 0,
             layer: confirmed,
         };
     }
-    discard_seats(seats, layer.seats as usize, cap - 2);
-    Advanced {
+    discard_seats(seats, layer.num_players as usize, cap - 2);
+    Confirmed {
         no: 0,
         layer: confirmed,
     }

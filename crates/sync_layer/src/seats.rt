@@ -1,6 +1,7 @@
 // The seats' queues in a lent list of numbers: seat i's eight from i * SEAT_WORDS on. And what is
 // done to every seat in turn.
 use crate::SEAT_WORDS;
+use frame_info::lesser;
 use input_queue::QueueState;
 ghost use mathlib.Core.Path.{_≡_};
 ghost use Prim.Native.Nat.{_+_, _-_, _*_, _≤_, _<_};
@@ -16,14 +17,14 @@ pub fn seat_at(seats: &[u32], seat: usize) -> QueueState
 {
     let at = seat * SEAT_WORDS;
     QueueState {
-        delay: seats[at],
-        user: seats[at + 1],
-        added: seats[at + 2],
+        frame_delay: seats[at],
+        last_user_count: seats[at + 1],
+        last_added_count: seats[at + 2],
         oldest: seats[at + 3],
-        requested: seats[at + 4],
-        predicting: seats[at + 5],
-        guess: seats[at + 6],
-        wrong: seats[at + 7],
+        last_requested_count: seats[at + 4],
+        prediction_count: seats[at + 5],
+        prediction: seats[at + 6],
+        first_incorrect_count: seats[at + 7],
     }
 }
 
@@ -32,14 +33,14 @@ pub fn set_seat(seats: &mut [u32], seat: usize, s: QueueState)
     ensures { λ _. ⌜ now (seats .exit) ≡ setSeat (now (seats .entry)) seat s ⌝ }
 {
     let at = seat * SEAT_WORDS;
-    seats[at] = s.delay;
-    seats[at + 1] = s.user;
-    seats[at + 2] = s.added;
+    seats[at] = s.frame_delay;
+    seats[at + 1] = s.last_user_count;
+    seats[at + 2] = s.last_added_count;
     seats[at + 3] = s.oldest;
-    seats[at + 4] = s.requested;
-    seats[at + 5] = s.predicting;
-    seats[at + 6] = s.guess;
-    seats[at + 7] = s.wrong;
+    seats[at + 4] = s.last_requested_count;
+    seats[at + 5] = s.prediction_count;
+    seats[at + 6] = s.prediction;
+    seats[at + 7] = s.first_incorrect_count;
 }
 
 // Every seat fresh, with its own delay.
@@ -67,7 +68,7 @@ pub fn reset_seats(seats: &mut [u32], n: usize)
 }
 
 pub fn discard_seats(seats: &mut [u32], n: usize, frame: u32)
-    requires { ⌜ (n * seatWords ≤ length (now seats)) × (frame < 4294967295) ⌝ }
+    requires { ⌜ n * seatWords ≤ length (now seats) ⌝ }
     ensures { λ _. ⌜ now (seats .exit) ≡ mapSeats n (λ i q. discard q frame) (now (seats .entry)) ⌝ }
 {
     let mut i = 0;
@@ -87,19 +88,19 @@ fn lower_of(a: u32, b: u32) -> u32
     if b == 0 {
         return a;
     }
-    if a <= b { a } else { b }
+    lesser(a, b)
 }
 
 // The lowest mismatch of the seats, as a count.
 pub fn lowest_wrong(seats: &[u32], n: usize) -> u32
     requires { ⌜ n * seatWords ≤ length (now seats) ⌝ }
-    ensures { λ r. ⌜ r ≡ lowestOf n (λ i. seatAt (now (seats .entry)) i .wrong) ⌝ }
+    ensures { λ r. ⌜ r ≡ lowestOf n (λ i. seatAt (now (seats .entry)) i .«first_incorrect_count») ⌝ }
 {
     let mut lowest = 0;
     let mut i = 0;
     while i < n {
         let s = seat_at(seats, i);
-        lowest = lower_of(lowest, s.wrong);
+        lowest = lower_of(lowest, s.first_incorrect_count);
         i += 1;
     }
     lowest

@@ -1,20 +1,30 @@
 // What is served to every seat for a frame. A status list has one entry a seat: whether it is gone,
 // and its last frame.
 use crate::LayerState;
+use crate::MAX_SEATS;
 use crate::seats::seat_at;
 use crate::seats::set_seat;
+use frame_info::BLANK;
+use frame_info::NULL_FRAME;
 use frame_info::count_of;
 use frame_info::frame_of;
+use frame_info::input_status::CONFIRMED;
+use frame_info::input_status::DISCONNECTED;
+use frame_info::input_status::InputStatus;
+use frame_info::input_status::PREDICTED;
+use input_queue::Asked;
 use input_queue::INPUT_QUEUE_LENGTH;
 ghost use mathlib.Core.Path.{_≡_};
 ghost use mathlib.Core.Bool.{Bool};
 ghost use Prim.Native.Nat.{ℕ, _+_, _-_, _*_, _≤_, _<_};
 ghost use lib.ListN.{length, set};
 ghost use lib.IntN.{ℤ};
-ghost use Rattle.input_queue.specs.Ring.{queueLength};
+ghost use Rattle.frame_info.specs.Word.{predicted};
+ghost use Rattle.input_queue.specs.Queue.{asking};
+ghost use Rattle.input_queue.specs.Ring.{queueLength, wordAt};
 ghost use Rattle.sync_layer.specs.Calls as calls;
 ghost use Rattle.sync_layer.specs.Lists.{firstRefusal, writeRow};
-ghost use Rattle.sync_layer.specs.Seats.{maxSeats, ringOf, mapSeats};
+ghost use Rattle.sync_layer.specs.Seats.{maxSeats, ringOf, seatAt, setSeat, mapSeats};
 ghost use Rattle.sync_layer.specs.Whole.{WordRoom, Seated, Serves};
 
 // Whether a seat is gone, with its last frame below a frame.
@@ -31,7 +41,7 @@ fn gone_below(disconnected: &[bool], last_frame: &[i32], seat: usize, frame: u32
 fn one_each(layer: LayerState, disconnected: &[bool], last_frame: &[i32]) -> bool
     ensures { λ r. ⌜ r ≡ calls.oneEach layer (now (disconnected .entry)) (now («last_frame» .entry)) ⌝ }
 {
-    let n = layer.seats as usize;
+    let n = layer.num_players as usize;
     if disconnected.len() == n {
         return last_frame.len() == n;
     }
@@ -45,13 +55,13 @@ fn ask_refusal(
     last_frame: &[i32],
     seat: usize,
 ) -> u32
-    requires { ⌜ Seated layer (now seats) × (seat < layer .seats) × (seat < length (now disconnected)) × (seat < length (now «last_frame»)) ⌝ }
+    requires { ⌜ Seated layer (now seats) × (seat < layer .«num_players») × (seat < length (now disconnected)) × (seat < length (now «last_frame»)) ⌝ }
     ensures { λ r. ⌜ r ≡ calls.askRefusal layer (now (seats .entry)) (now (disconnected .entry)) (now («last_frame» .entry)) seat ⌝ }
 {
-    if gone_below(disconnected, last_frame, seat, layer.current) {
+    if gone_below(disconnected, last_frame, seat, layer.current_frame) {
         return 0;
     }
-    input_queue::input_refusal(seat_at(seats, seat), layer.current + 1)
+    input_queue::input_refusal(seat_at(seats, seat), layer.current_frame + 1)
 }
 
 // The number by which the lowest seat that refuses does, 0 where none does.
@@ -61,10 +71,10 @@ fn first_ask_refusal(
     disconnected: &[bool],
     last_frame: &[i32],
 ) -> u32
-    requires { ⌜ Seated layer (now seats) × (layer .seats ≡ length (now disconnected)) × (layer .seats ≡ length (now «last_frame»)) ⌝ }
-    ensures { λ r. ⌜ r ≡ firstRefusal (layer .seats) (calls.askRefusal layer (now (seats .entry)) (now (disconnected .entry)) (now («last_frame» .entry))) ⌝ }
+    requires { ⌜ Seated layer (now seats) × (layer .«num_players» ≡ length (now disconnected)) × (layer .«num_players» ≡ length (now «last_frame»)) ⌝ }
+    ensures { λ r. ⌜ r ≡ firstRefusal (layer .«num_players») (calls.askRefusal layer (now (seats .entry)) (now (disconnected .entry)) (now («last_frame» .entry))) ⌝ }
 {
-    let n = layer.seats as usize;
+    let n = layer.num_players as usize;
     let mut i: usize = 0;
     while i < n {
         let no = ask_refusal(seats, layer, disconnected, last_frame, i);
@@ -92,44 +102,59 @@ pub fn request_refusal(
     first_ask_refusal(seats, layer, disconnected, last_frame)
 }
 
-fn standing_of(confirmed: bool) -> u32
-    ensures { λ r. ⌜ r ≡ calls.standingOf confirmed ⌝ }
+fn status_of(confirmed: bool) -> InputStatus
+    ensures { λ r. ⌜ r ≡ calls.statusOf confirmed ⌝ }
 {
-    if confirmed { 0 } else { 1 }
+    if confirmed { CONFIRMED } else { PREDICTED }
 }
 
-// One seat's word and standing, and its queue after the request; one that is gone is not asked.
-fn serve_seat(
-    seats: &mut [u32],
-    words: &[u32],
-    layer: LayerState,
-    gone: bool,
-    seat: usize,
-    inputs: &mut [u32],
-    statuses: &mut [u32],
-)
-    requires { ⌜ Serves layer (now seats) (now words) seat × (seat < length (now inputs)) × (seat < length (now statuses)) ⌝ }
-    ensures { λ _. ⌜ (now (seats .exit) ≡ calls.seatAsked layer (now (words .entry)) gone seat (now (seats .entry)))
-        × (now (inputs .exit) ≡ set (now (inputs .entry)) seat (calls.wordAsked layer (now (seats .entry)) (now (words .entry)) gone seat))
-        × (now (statuses .exit) ≡ set (now (statuses .entry)) seat (calls.standingAsked layer (now (seats .entry)) gone seat)) ⌝ }
+// One seat's queue asked for the current frame, and put back.
+fn ask_seat(seats: &mut [u32], words: &[u32], layer: LayerState, seat: usize) -> Asked
+    requires { ⌜ Serves layer (now seats) (now words) seat ⌝ }
+    ensures { λ r. ⌜ (r ≡ asking (predicted (layer .predictor)) (wordAt (now (words .entry)) (ringOf seat)) (seatAt (now (seats .entry)) seat) (layer .«current_frame»))
+        × (now (seats .exit) ≡ setSeat (now (seats .entry)) seat (r .state)) ⌝ }
 {
-    if gone {
-        inputs[seat] = 0;
-        statuses[seat] = 2;
-        return;
-    }
     let s = seat_at(&seats[..], seat);
     let asked = input_queue::ask(
         words,
         seat * INPUT_QUEUE_LENGTH,
         s,
         layer.predictor,
-        layer.current,
+        layer.current_frame + 1,
     );
     let state = asked.state;
     set_seat(seats, seat, state);
+    asked
+}
+
+// One seat's word and status, and its queue after the request; one that is gone is not asked.
+fn serve_seat(
+    seats: &mut [u32],
+    words: &[u32],
+    layer: LayerState,
+    disconnected: &[bool],
+    last_frame: &[i32],
+    seat: usize,
+    inputs: &mut [u32],
+    statuses: &mut [InputStatus],
+)
+    requires { ⌜ Serves layer (now seats) (now words) seat × (seat < length (now disconnected)) × (seat < length (now «last_frame»))
+        × (seat < length (now inputs)) × (seat < length (now statuses)) ⌝ }
+    ensures { λ _. ⌜ (now (seats .exit)
+        ≡ setSeat (now (seats .entry)) seat
+        (calls.askedSeat layer (now (seats .entry)) (now (words .entry)) (now (disconnected .entry)) (now («last_frame» .entry)) seat (seatAt (now (seats .entry)) seat)))
+        × (now (inputs .exit) ≡ set (now (inputs .entry)) seat (calls.servedWord layer (now (seats .entry)) (now (words .entry)) (now (disconnected .entry)) (now («last_frame» .entry)) seat))
+        × (now (statuses .exit) ≡ set (now (statuses .entry)) seat
+        (calls.status layer (now (seats .entry)) (now (words .entry)) (now (disconnected .entry)) (now («last_frame» .entry)) seat)) ⌝ }
+{
+    if gone_below(disconnected, last_frame, seat, layer.current_frame) {
+        inputs[seat] = BLANK;
+        statuses[seat] = DISCONNECTED;
+        return;
+    }
+    let asked = ask_seat(seats, words, layer, seat);
     inputs[seat] = asked.word;
-    statuses[seat] = standing_of(asked.confirmed);
+    statuses[seat] = status_of(asked.confirmed);
 }
 
 fn serve_seats(
@@ -139,39 +164,49 @@ fn serve_seats(
     disconnected: &[bool],
     last_frame: &[i32],
     inputs: &mut [u32],
-    statuses: &mut [u32],
+    statuses: &mut [InputStatus],
 )
-    requires { ⌜ Seated layer (now seats) × WordRoom (now words) × (layer .seats ≡ length (now disconnected)) × (layer .seats ≡ length (now «last_frame»))
-        × (layer .seats ≤ length (now inputs)) × (layer .seats ≤ length (now statuses)) ⌝ }
-    ensures { λ _. ⌜ (now (seats .exit) ≡ mapSeats (layer .seats) (calls.askedSeat layer (now (seats .entry)) (now (words .entry)) (now (disconnected .entry)) (now («last_frame» .entry))) (now (seats .entry)))
-        × (now (inputs .exit) ≡ writeRow (layer .seats) (now (inputs .entry)) 0 (calls.servedWord layer (now (seats .entry)) (now (words .entry)) (now (disconnected .entry)) (now («last_frame» .entry))))
-        × (now (statuses .exit) ≡ writeRow (layer .seats) (now (statuses .entry)) 0 (calls.standing layer (now (seats .entry)) (now (words .entry)) (now (disconnected .entry)) (now («last_frame» .entry)))) ⌝ }
+    requires { ⌜ Seated layer (now seats) × WordRoom (now words) × (layer .«num_players» ≡ length (now disconnected)) × (layer .«num_players» ≡ length (now «last_frame»))
+        × (layer .«num_players» ≤ length (now inputs)) × (layer .«num_players» ≤ length (now statuses)) ⌝ }
+    ensures { λ _. ⌜ (now (seats .exit)
+        ≡ mapSeats (layer .«num_players») (calls.askedSeat layer (now (seats .entry)) (now (words .entry)) (now (disconnected .entry)) (now («last_frame» .entry))) (now (seats .entry)))
+        × (now (inputs .exit)
+        ≡ writeRow (layer .«num_players») (now (inputs .entry)) 0 (calls.servedWord layer (now (seats .entry)) (now (words .entry)) (now (disconnected .entry)) (now («last_frame» .entry))))
+        × (now (statuses .exit)
+        ≡ writeRow (layer .«num_players») (now (statuses .entry)) 0 (calls.status layer (now (seats .entry)) (now (words .entry)) (now (disconnected .entry)) (now («last_frame» .entry)))) ⌝ }
 {
-    let n = layer.seats as usize;
+    let n = layer.num_players as usize;
     let mut i: usize = 0;
     while i < n {
-        let gone = gone_below(disconnected, last_frame, i, layer.current);
-        serve_seat(seats, words, layer, gone, i, inputs, statuses);
+        serve_seat(
+            seats,
+            words,
+            layer,
+            disconnected,
+            last_frame,
+            i,
+            inputs,
+            statuses,
+        );
         i += 1;
     }
 }
 
-// The word of every seat for the current frame, and its standing (0 confirmed, 1 predicted, 2
-// gone): 2, and then the lowest seat that refuses decides. Answers the number.
-pub fn synchronized_inputs(
+// A request into lists that have a place for every seat, for callers who have tested that.
+pub fn synchronized_inputs_into(
     seats: &mut [u32],
     words: &[u32],
     layer: LayerState,
     disconnected: &[bool],
     last_frame: &[i32],
     inputs: &mut [u32],
-    statuses: &mut [u32],
+    statuses: &mut [InputStatus],
 ) -> u32
-    requires { ⌜ Seated layer (now seats) × WordRoom (now words) × (layer .seats ≤ length (now inputs)) × (layer .seats ≤ length (now statuses)) ⌝ }
+    requires { ⌜ Seated layer (now seats) × WordRoom (now words) × (layer .«num_players» ≤ length (now inputs)) × (layer .«num_players» ≤ length (now statuses)) ⌝ }
     ensures { λ r. ⌜ (r ≡ calls.requestRefusal layer (now (seats .entry)) (now (disconnected .entry)) (now («last_frame» .entry)))
         × (now (seats .exit) ≡ calls.servedSeats layer (now (seats .entry)) (now (words .entry)) (now (disconnected .entry)) (now («last_frame» .entry)))
         × (now (inputs .exit) ≡ calls.servedWords layer (now (seats .entry)) (now (words .entry)) (now (disconnected .entry)) (now («last_frame» .entry)) (now (inputs .entry)))
-        × (now (statuses .exit) ≡ calls.standings layer (now (seats .entry)) (now (words .entry)) (now (disconnected .entry)) (now («last_frame» .entry)) (now (statuses .entry))) ⌝ }
+        × (now (statuses .exit) ≡ calls.statuses layer (now (seats .entry)) (now (words .entry)) (now (disconnected .entry)) (now («last_frame» .entry)) (now (statuses .entry))) ⌝ }
 {
     let no = request_refusal(&seats[..], layer, disconnected, last_frame);
     if no != 0 {
@@ -189,6 +224,34 @@ pub fn synchronized_inputs(
     0
 }
 
+// The word of every seat for the current frame, and its status: 2, and then the lowest seat that
+// refuses decides. Answers the number.
+pub fn synchronized_inputs(
+    seats: &mut [u32],
+    words: &[u32],
+    layer: LayerState,
+    disconnected: &[bool],
+    last_frame: &[i32],
+    inputs: &mut [u32; MAX_SEATS],
+    statuses: &mut [InputStatus; MAX_SEATS],
+) -> u32
+    requires { ⌜ Seated layer (now seats) × WordRoom (now words) ⌝ }
+    ensures { λ r. ⌜ (r ≡ calls.requestRefusal layer (now (seats .entry)) (now (disconnected .entry)) (now («last_frame» .entry)))
+        × (now (seats .exit) ≡ calls.servedSeats layer (now (seats .entry)) (now (words .entry)) (now (disconnected .entry)) (now («last_frame» .entry)))
+        × (now (inputs .exit) ≡ calls.servedWords layer (now (seats .entry)) (now (words .entry)) (now (disconnected .entry)) (now («last_frame» .entry)) (now (inputs .entry)))
+        × (now (statuses .exit) ≡ calls.statuses layer (now (seats .entry)) (now (words .entry)) (now (disconnected .entry)) (now («last_frame» .entry)) (now (statuses .entry))) ⌝ }
+{
+    synchronized_inputs_into(
+        seats,
+        words,
+        layer,
+        disconnected,
+        last_frame,
+        inputs,
+        statuses,
+    )
+}
+
 fn find_refusal(
     seats: &[u32],
     layer: LayerState,
@@ -197,7 +260,7 @@ fn find_refusal(
     count: u32,
     seat: usize,
 ) -> u32
-    requires { ⌜ Seated layer (now seats) × (0 < count) × (seat < layer .seats) × (seat < length (now disconnected)) × (seat < length (now «last_frame»)) ⌝ }
+    requires { ⌜ Seated layer (now seats) × (0 < count) × (seat < layer .«num_players») × (seat < length (now disconnected)) × (seat < length (now «last_frame»)) ⌝ }
     ensures { λ r. ⌜ r ≡ calls.findRefusal (now (seats .entry)) (now (disconnected .entry)) (now («last_frame» .entry)) count seat ⌝ }
 {
     if gone_below(disconnected, last_frame, seat, count - 1) {
@@ -213,10 +276,10 @@ fn first_find_refusal(
     last_frame: &[i32],
     count: u32,
 ) -> u32
-    requires { ⌜ Seated layer (now seats) × (0 < count) × (layer .seats ≡ length (now disconnected)) × (layer .seats ≡ length (now «last_frame»)) ⌝ }
-    ensures { λ r. ⌜ r ≡ firstRefusal (layer .seats) (calls.findRefusal (now (seats .entry)) (now (disconnected .entry)) (now («last_frame» .entry)) count) ⌝ }
+    requires { ⌜ Seated layer (now seats) × (0 < count) × (layer .«num_players» ≡ length (now disconnected)) × (layer .«num_players» ≡ length (now «last_frame»)) ⌝ }
+    ensures { λ r. ⌜ r ≡ firstRefusal (layer .«num_players») (calls.findRefusal (now (seats .entry)) (now (disconnected .entry)) (now («last_frame» .entry)) count) ⌝ }
 {
-    let n = layer.seats as usize;
+    let n = layer.num_players as usize;
     let mut i: usize = 0;
     while i < n {
         let no = find_refusal(seats, layer, disconnected, last_frame, count, i);
@@ -247,22 +310,30 @@ fn confirmed_refusal(
     first_find_refusal(seats, layer, disconnected, last_frame, count)
 }
 
-fn confirmed_word(words: &[u32], gone: bool, seat: usize, frame: u32) -> u32
-    requires { ⌜ ringOf seat + queueLength ≤ length (now words) ⌝ }
-    ensures { λ r. ⌜ r ≡ calls.wordFound (now (words .entry)) gone seat frame ⌝ }
+fn confirmed_word(
+    words: &[u32],
+    disconnected: &[bool],
+    last_frame: &[i32],
+    count: u32,
+    seat: usize,
+) -> u32
+    requires { ⌜ (0 < count) × (ringOf seat + queueLength ≤ length (now words)) × (seat < length (now disconnected)) × (seat < length (now «last_frame»)) ⌝ }
+    ensures { λ r. ⌜ r ≡ calls.confirmedWord (now (words .entry)) (now (disconnected .entry)) (now («last_frame» .entry)) count seat ⌝ }
 {
-    if gone {
-        return 0;
+    let frame = count - 1;
+    if gone_below(disconnected, last_frame, seat, frame) {
+        return BLANK;
     }
     let at = seat * INPUT_QUEUE_LENGTH + frame as usize % INPUT_QUEUE_LENGTH;
     words[at]
 }
 
-fn confirmed_frame(gone: bool, count: u32) -> i32
-    ensures { λ r. ⌜ r ≡ calls.frameFound gone count ⌝ }
+fn confirmed_frame(disconnected: &[bool], last_frame: &[i32], count: u32, seat: usize) -> i32
+    requires { ⌜ (0 < count) × (seat < length (now disconnected)) × (seat < length (now «last_frame»)) ⌝ }
+    ensures { λ r. ⌜ r ≡ calls.confirmedFrame (now (disconnected .entry)) (now («last_frame» .entry)) count seat ⌝ }
 {
-    if gone {
-        return -1;
+    if gone_below(disconnected, last_frame, seat, count - 1) {
+        return NULL_FRAME;
     }
     frame_of(count)
 }
@@ -276,18 +347,18 @@ fn find_seats(
     frames: &mut [i32],
     inputs: &mut [u32],
 )
-    requires { ⌜ (layer .seats ≤ maxSeats) × (0 < count) × WordRoom (now words) × (layer .seats ≡ length (now disconnected)) × (layer .seats ≡ length (now «last_frame»))
-        × (layer .seats ≤ length (now frames)) × (layer .seats ≤ length (now inputs)) ⌝ }
-    ensures { λ _. ⌜ (now (frames .exit) ≡ writeRow (layer .seats) (now (frames .entry)) 0 (calls.confirmedFrame (now (disconnected .entry)) (now («last_frame» .entry)) count))
-        × (now (inputs .exit) ≡ writeRow (layer .seats) (now (inputs .entry)) 0 (calls.confirmedWord (now (words .entry)) (now (disconnected .entry)) (now («last_frame» .entry)) count)) ⌝ }
+    requires { ⌜ (layer .«num_players» ≤ maxSeats) × (0 < count) × WordRoom (now words) × (layer .«num_players» ≡ length (now disconnected))
+        × (layer .«num_players» ≡ length (now «last_frame»))
+        × (layer .«num_players» ≤ length (now frames)) × (layer .«num_players» ≤ length (now inputs)) ⌝ }
+    ensures { λ _. ⌜ (now (frames .exit) ≡ writeRow (layer .«num_players») (now (frames .entry)) 0 (calls.confirmedFrame (now (disconnected .entry)) (now («last_frame» .entry)) count))
+        × (now (inputs .exit) ≡ writeRow (layer .«num_players») (now (inputs .entry)) 0
+        (calls.confirmedWord (now (words .entry)) (now (disconnected .entry)) (now («last_frame» .entry)) count)) ⌝ }
 {
-    let n = layer.seats as usize;
-    let at = count - 1;
+    let n = layer.num_players as usize;
     let mut i: usize = 0;
     while i < n {
-        let gone = gone_below(disconnected, last_frame, i, at);
-        frames[i] = confirmed_frame(gone, count);
-        inputs[i] = confirmed_word(words, gone, i, at);
+        frames[i] = confirmed_frame(disconnected, last_frame, count, i);
+        inputs[i] = confirmed_word(words, disconnected, last_frame, count, i);
         i += 1;
     }
 }
@@ -301,10 +372,10 @@ pub fn confirmed_inputs(
     disconnected: &[bool],
     last_frame: &[i32],
     frame: i32,
-    frames: &mut [i32],
-    inputs: &mut [u32],
+    frames: &mut [i32; MAX_SEATS],
+    inputs: &mut [u32; MAX_SEATS],
 ) -> u32
-    requires { ⌜ Seated layer (now seats) × WordRoom (now words) × (layer .seats ≤ length (now frames)) × (layer .seats ≤ length (now inputs)) ⌝ }
+    requires { ⌜ Seated layer (now seats) × WordRoom (now words) ⌝ }
     ensures { λ r. ⌜ (r ≡ calls.confirmedNumber layer (now (seats .entry)) (now (disconnected .entry)) (now («last_frame» .entry)) frame)
         × (now (frames .exit) ≡ calls.confirmedFrames layer (now (seats .entry)) (now (disconnected .entry)) (now («last_frame» .entry)) frame (now (frames .entry)))
         × (now (inputs .exit) ≡ calls.confirmedWords layer (now (seats .entry)) (now (words .entry)) (now (disconnected .entry)) (now («last_frame» .entry)) frame (now (inputs .entry))) ⌝ }

@@ -3,11 +3,13 @@
 // from 4 on the words that the desk served.
 use crate::SLOT_WORDS;
 use console::Console;
+use frame_info::greater;
 ghost use mathlib.Core.Path.{_≡_};
 ghost use mathlib.Core.Bool.{Bool};
 ghost use Prim.Native.Nat.{_+_, _-_, _*_, _≤_, _<_, suc};
 ghost use lib.ListN.{length};
 ghost use lib.Dec.{eqb};
+ghost use Rattle.frame_info.specs.Frame.{lastCount};
 ghost use Rattle.sync_layer.specs.Slots.{maxLimit, slotWords, slotOf, slotAt, stateIn, saveSlot, clearSlots, within, highestIn};
 ghost use Rattle.sync_layer.specs.Whole.{SlotRoom};
 
@@ -20,7 +22,7 @@ pub fn slot_of(limit: u32, frame: u32) -> usize
 }
 
 pub fn save_slot(slots: &mut [u32], limit: u32, frame: u32, state: Console)
-    requires { ⌜ (limit ≤ maxLimit) × (frame < 4294967295) × SlotRoom (now slots) ⌝ }
+    requires { ⌜ (limit ≤ maxLimit) × (frame < lastCount) × SlotRoom (now slots) ⌝ }
     ensures { λ _. ⌜ now (slots .exit) ≡ saveSlot limit (now (slots .entry)) frame state ⌝ }
 {
     let at = slot_of(limit, frame);
@@ -73,12 +75,6 @@ fn within_both(low: u32, high: u32, count: u32) -> u32
     if count <= high { count } else { 0 }
 }
 
-fn higher(a: u32, b: u32) -> u32
-    ensures { λ r. ⌜ r ≡ Prim.Native.Nat.max a b ⌝ }
-{
-    if a < b { b } else { a }
-}
-
 // The highest frame's count that slots 0 to n - 1 hold within two others, 0 where there is none.
 pub fn highest_in(slots: &[u32], n: usize, low: u32, high: u32) -> u32
     requires { ⌜ (n ≤ suc maxLimit) × SlotRoom (now slots) ⌝ }
@@ -88,7 +84,7 @@ pub fn highest_in(slots: &[u32], n: usize, low: u32, high: u32) -> u32
     let mut i: usize = 0;
     while i < n {
         let at = i * SLOT_WORDS;
-        highest = higher(highest, within_both(low, high, slots[at]));
+        highest = greater(highest, within_both(low, high, slots[at]));
         i += 1;
     }
     highest

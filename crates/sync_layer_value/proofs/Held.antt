@@ -12,6 +12,7 @@ use Rattle.input_queue.specs.Ring.{queueLength}
 use Rattle.sync_layer.specs.declared.LayerState.{LayerState}
 use Rattle.sync_layer.specs.declared.Opened.{Opened}
 use Rattle.sync_layer.specs.declared.Advanced.{Advanced}
+use Rattle.sync_layer.specs.declared.Confirmed.{Confirmed}
 use Rattle.sync_layer.specs.declared.Loaded.{Loaded}
 use Rattle.sync_layer.specs.declared.Saved.{Saved}
 use Rattle.sync_layer.specs.declared.Latest.{Latest}
@@ -34,7 +35,7 @@ module _ (y : SyncLayer) where
   unfolding held.advanced
   held-advanced a e = rw e
 
-  pub held-saved : (c : Console) (s : LayerState) (l : List ℕ) → s ≡ calls.savedLayer (y .state) → l ≡ saveSlot (y .state .limit) (y .slots) (y .state .current) c
+  pub held-saved : (c : Console) (s : LayerState) (l : List ℕ) → s ≡ calls.savedLayer (y .state) → l ≡ saveSlot (y .state .«max_prediction») (y .slots) (y .state .«current_frame») c
       → record { state = s; seats = y .seats; words = y .words; slots = l } ≡ held.saved y c
   unfolding held.saved
   held-saved c s l e g = rw (e, g)
@@ -51,13 +52,13 @@ module _ (y : SyncLayer) where
     pub held-latest : (a : Latest) (g g′ : ℤ) → g′ ≡ g → a ≡ calls.latest (y .state) (y .slots) f′ g′ → a ≡ calls.latest (y .state) (y .slots) f g
     held-latest a g g′ d h = rw (← e, ← d) h
 
-    pub held-confirmed : (b : Bool) (a : Advanced) (l : List ℕ) → a ≡ calls.confirmed (y .state) (y .seats) f′ b → l ≡ calls.confirmedSeats (y .state) (y .seats) f′ b
+    pub held-confirmed : (b : Bool) (a : Confirmed) (l : List ℕ) → a ≡ calls.confirmed (y .state) (y .seats) f′ b → l ≡ calls.confirmedSeats (y .state) (y .seats) f′ b
         → record { no = a .no; layer = record { state = a .layer; seats = l; words = y .words; slots = y .slots } } ≡ held.confirmed y f b
     unfolding held.confirmed
     held-confirmed b a l g h = rw (g, h, e)
 
     pub held-found : (gone : List Bool) (last : List ℤ) (n : ℕ) (m : List ℤ) (k : List ℕ) → n ≡ calls.confirmedNumber (y .state) (y .seats) gone last f′
-        → m ≡ calls.confirmedFrames (y .state) (y .seats) gone last f′ held.noFrames → k ≡ calls.confirmedWords (y .state) (y .seats) (y .words) gone last f′ held.blanks
+        → m ≡ calls.confirmedFrames (y .state) (y .seats) gone last f′ held.zeroFrames → k ≡ calls.confirmedWords (y .state) (y .seats) (y .words) gone last f′ held.blanks
         → record { no = n; frames = m; inputs = k } ≡ held.confirmedInputs y gone last f
     unfolding held.confirmedInputs
     held-found gone last n m k g h j = rw (g, h, j, e)
@@ -83,7 +84,7 @@ module _ (y : SyncLayer) where
 
   pub held-served : (gone : List Bool) (last : List ℤ) (n : ℕ) (l m k : List ℕ) → n ≡ calls.requestRefusal (y .state) (y .seats) gone last
       → l ≡ calls.servedSeats (y .state) (y .seats) (y .words) gone last → m ≡ calls.servedWords (y .state) (y .seats) (y .words) gone last held.blanks
-      → k ≡ calls.standings (y .state) (y .seats) (y .words) gone last held.blanks
+      → k ≡ calls.statuses (y .state) (y .seats) (y .words) gone last held.blanks
       → record { no = n; inputs = m; statuses = k; layer = held.withSeats y l } ≡ held.served y gone last
   unfolding held.served
   held-served gone last n l m k a b d e = rw (a, b, d, e)

@@ -20,6 +20,7 @@ use Rattle.sync_layer.specs.Runs.{Call, advance-call, save-call, load-call, loc
 use Rattle.sync_layer_value.specs.declared.SyncLayer.{SyncLayer}
 use Rattle.sync_layer_value.specs.declared.OpenedLayer.{OpenedLayer}
 use Rattle.sync_layer_value.specs.declared.AdvancedLayer.{AdvancedLayer}
+use Rattle.sync_layer_value.specs.declared.ConfirmedLayer.{ConfirmedLayer}
 use Rattle.sync_layer_value.specs.declared.LoadedLayer.{LoadedLayer}
 use Rattle.sync_layer_value.specs.declared.PlacedLayer.{PlacedLayer}
 use Rattle.sync_layer_value.specs.declared.AnnouncedLayer.{AnnouncedLayer}
@@ -39,12 +40,12 @@ withSeats y l = record { state = y .state; seats = l; words = y .words; slots = 
 abbrev pub withQueues : SyncLayer → List ℕ → List ℕ → SyncLayer
 withQueues y seats words = record { state = y .state; seats = seats; words = words; slots = y .slots }
 
--- one place for each seat, blank where there is none
+-- one place for each seat, blank and frame 0 where no call writes
 abbrev pub blanks : List ℕ
 blanks = replicate maxSeats blank
 
-abbrev pub noFrames : List ℤ
-noFrames = replicate maxSeats (pos 0)
+abbrev pub zeroFrames : List ℤ
+zeroFrames = replicate maxSeats (pos 0)
 
 -- setup, on lists of zeros
 unfoldable pub opened : ℕ → ℕ → List ℕ → OpenedLayer
@@ -68,7 +69,7 @@ saved y c =
       state = calls.savedLayer (y .state);
       seats = y .seats;
       words = y .words;
-      slots = saveSlot (y .state .limit) (y .slots) (y .state .current) c;
+      slots = saveSlot (y .state .«max_prediction») (y .slots) (y .state .«current_frame») c;
     }
 
 unfoldable pub loaded : SyncLayer → ℤ → LoadedLayer
@@ -114,7 +115,7 @@ served y gone last =
     record {
       no = calls.requestRefusal (y .state) (y .seats) gone last;
       inputs = calls.servedWords (y .state) (y .seats) (y .words) gone last blanks;
-      statuses = calls.standings (y .state) (y .seats) (y .words) gone last blanks;
+      statuses = calls.statuses (y .state) (y .seats) (y .words) gone last blanks;
       layer = withSeats y (calls.servedSeats (y .state) (y .seats) (y .words) gone last);
     }
 
@@ -122,11 +123,11 @@ unfoldable pub confirmedInputs : SyncLayer → List Bool → List ℤ → ℤ �
 confirmedInputs y gone last f =
     record {
       no = calls.confirmedNumber (y .state) (y .seats) gone last f;
-      frames = calls.confirmedFrames (y .state) (y .seats) gone last f noFrames;
+      frames = calls.confirmedFrames (y .state) (y .seats) gone last f zeroFrames;
       inputs = calls.confirmedWords (y .state) (y .seats) (y .words) gone last f blanks;
     }
 
-unfoldable pub confirmed : SyncLayer → ℤ → Bool → AdvancedLayer
+unfoldable pub confirmed : SyncLayer → ℤ → Bool → ConfirmedLayer
 confirmed y f sparse =
     record {
       no = calls.confirmed (y .state) (y .seats) f sparse .no;

@@ -2,25 +2,18 @@
 // same name in `sync_layer`, and puts the layer together again.
 use console::Console;
 use frame_info::PlayerInput;
-use input_queue::INPUT_QUEUE_LENGTH;
+use frame_info::input_status::InputStatus;
 use sync_layer::Latest;
 use sync_layer::LayerState;
-use sync_layer::MAX_LIMIT;
 use sync_layer::MAX_SEATS;
-use sync_layer::SEAT_WORDS;
-use sync_layer::SLOT_WORDS;
+use sync_layer::SEATS_LENGTH;
+use sync_layer::SLOTS_LENGTH;
 use sync_layer::Saved;
+use sync_layer::WORDS_LENGTH;
 ghost use mathlib.Core.Path.{_≡_};
 ghost use lib.IntN.{ℤ};
 ghost use Rattle.sync_layer.specs.Calls as calls;
 ghost use Rattle.sync_layer_value.specs.Value as held;
-
-// How many numbers each list has.
-pub const SEATS_LENGTH: usize = MAX_SEATS * SEAT_WORDS;
-
-pub const WORDS_LENGTH: usize = MAX_SEATS * INPUT_QUEUE_LENGTH;
-
-pub const SLOTS_LENGTH: usize = (MAX_LIMIT as usize + 1) * SLOT_WORDS;
 
 pub struct SyncLayer {
     pub state: LayerState,
@@ -35,6 +28,11 @@ pub struct OpenedLayer {
 }
 
 pub struct AdvancedLayer {
+    pub no: u32,
+    pub layer: SyncLayer,
+}
+
+pub struct ConfirmedLayer {
     pub no: u32,
     pub layer: SyncLayer,
 }
@@ -59,11 +57,11 @@ pub struct AnnouncedLayer {
     pub layer: SyncLayer,
 }
 
-// The words and their standings, seat by seat; 0 past the layer's seats.
+// The words and their statuses, seat by seat; 0 past the layer's seats.
 pub struct ServedLayer {
     pub no: u32,
     pub inputs: [u32; MAX_SEATS],
-    pub statuses: [u32; MAX_SEATS],
+    pub statuses: [InputStatus; MAX_SEATS],
     pub layer: SyncLayer,
 }
 
@@ -297,7 +295,7 @@ impl SyncLayer {
         ConfirmedInputs { no, frames, inputs }
     }
 
-    pub fn set_last_confirmed_frame(self, frame: i32, sparse: bool) -> AdvancedLayer
+    pub fn set_last_confirmed_frame(self, frame: i32, sparse: bool) -> ConfirmedLayer
         requires { ⌜ held.Whole self ⌝ }
         ensures { λ r. ⌜ r ≡ held.confirmed self frame sparse ⌝ }
     {
@@ -308,12 +306,12 @@ impl SyncLayer {
         let mut layer = self;
         layer.state = state;
         layer.seats = seats;
-        AdvancedLayer { no: a.no, layer }
+        ConfirmedLayer { no: a.no, layer }
     }
 
     pub fn check_simulation_consistency(self) -> i32
         requires { ⌜ held.Whole self ⌝ }
-        ensures { λ r. ⌜ r ≡ calls.inconsistent (self .state) (self .seats) ⌝ }
+        ensures { λ r. ⌜ r ≡ calls.lowestMismatch (self .state) (self .seats) ⌝ }
     {
         let s = self.state;
         let seats = self.seats;

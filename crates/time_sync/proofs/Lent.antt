@@ -7,7 +7,8 @@ use lib.ListN.{length, set, length-set, length-map}
 use lib.IntN.{ℤ}
 use lib.Signed.{mag}
 use mir.Syntax.{w32}
-use mir.Val.{Val, vint, vstruct, vnil, vcons, ofZ}
+use mir.Val.{Val, vint, vstruct, vnil, vcons, ofZ, Fits}
+use mir.Facts.{fits-ofZ}
 use denote.Array.{Array, arrayVal, each}
 use denote.Laws.{Is}
 use denote.Shadow.{shadow}
@@ -18,9 +19,12 @@ use Rattle.time_sync.proofs.TimeSync as T
 use Rattle.time_sync.proofs.TimeSync.Laws as T′
 use Rattle.time_sync.proofs.Windows.{put}
 
--- an entry's bits, and a window's
+-- an entry's bits, which are 32, and a window's
 abbrev pub bits : ℤ → Val
 bits z = vint w32 (ofZ w32 z)
+
+pub entry : (z : ℤ) → mag z < 2 ^ 31 → Fits w32 (ofZ w32 z)
+entry z c = fits-ofZ {w = w32} {z = z} (record { sfits = c })
 
 abbrev pub window : List ℤ → List Val
 window l = map bits (map (λ (z : ℤ). z) l)

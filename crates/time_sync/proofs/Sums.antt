@@ -15,7 +15,7 @@ use mir.Val.{SFits, toZ, ofZ}
 use mir.Facts.{toZ-ofZ, toZ-pos}
 use borrow.Author.Tests.{ltb-true, le-ltb}
 use Rattle.frame_info.proofs.Split.{split-ltb}
-use Rattle.frame_info.proofs.Words.{down}
+use Rattle.frame_info.proofs.Signed.{down}
 use Rattle.time_sync.specs.Sums.{residue, sumTo, wrapped, windowSum}
 
 -- a residue is below 2^32
@@ -67,19 +67,6 @@ residue-below (negsuc n) f h = omega (arith, f .sfits)
 pub residue-above : (z : ℤ) → SFits w32 z → ltZ z (pos 0) ≡ false → natAbs z ≡ residue z
 residue-above (pos n) f h = omega (arith, f .sfits)
 residue-above (negsuc n) f h = absurd (true≢false h)
-
--- bits above 2^31 stand for a number below 0
-module _ (b : ℕ) (l : b < 4294967296) (h : 2147483648 ≤ b) where
-  lifted : negsuc 0 -ℤ toZ w32 (4294967295 - b) ≡ negsuc (4294967295 - b)
-  lifted = rw (toZ-pos w32 {n = 4294967295 - b} (omega arith)) (down (4294967295 - b))
-
-  pub lifted-fits : SFits w32 (negsuc 0 -ℤ toZ w32 (4294967295 - b))
-  lifted-fits = rw lifted (record { sfits = omega arith })
-
-  pub lifted-back : toZ w32 (ofZ w32 (negsuc 0 -ℤ toZ w32 (4294967295 - b))) ≡ toZ w32 b
-  lifted-back =
-      let e : 4294967295 - b ≡ 4294967296 - suc b = omega arith in
-      toZ-ofZ lifted-fits ∙ lifted ∙ simp (le-ltb b 2147483648 h) (ap negsuc e)
 
 -- one more entry
 pub sum-more : (n : ℕ) (w : List ℤ) (t b : ℕ) → t ≡ residue (sumTo n w) → b ≡ residue (getD w n (pos 0)) → (t + b) % 2 ^ 32 ≡ residue (sumTo (n + 1) w)

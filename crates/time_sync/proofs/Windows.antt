@@ -26,9 +26,6 @@ put s i l r = record { local = set (s .local) i l; remote = set (s .remote) i r 
 abbrev pub answered : ℕ → TimeSync → Advanced
 answered n s = record { no = n; sync = s }
 
-pub same-entries : (s : TimeSync) (i : ℕ) (l l′ r r′ : ℤ) → l′ ≡ l → r′ ≡ r → answered 0 (put s i l′ r′) ≡ answered 0 (put s i l r)
-same-entries s i l l′ r r′ a b = rw (a, b)
-
 module _ (s : TimeSync) (l r : ℤ) where
   pub advanced-none : (f : ℤ) (i : ℕ) → i ≡ slotOf f → 30 ≤ i → answered 7 s ≡ advanced s f l r
   unfolding advanced

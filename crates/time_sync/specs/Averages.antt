@@ -3,6 +3,7 @@ use mathlib.Core.List.{List}
 use lib.IntN.{ℤ, pos}
 use lib.Ieee as Ieee
 use lib.Ieee.{Float, binary32}
+use Rattle.time_sync.specs.Windows.{windowSize}
 use Rattle.time_sync.specs.Sums.{windowSum}
 use Rattle.time_sync.specs.declared.TimeSync.{TimeSync}
 use Rattle.time_sync.specs.declared.Averages.{Averages}
@@ -11,9 +12,9 @@ use Rattle.time_sync.specs.declared.Averages.{Averages}
 abbrev pub inBinary32 : ℤ → Float
 inBinary32 z = Ieee.ofInt binary32 z
 
--- an average: the window's sum is rounded to binary32, and divided by 30
+-- an average: the window's sum is rounded to binary32, and divided by 30, the number of entries
 unfoldable pub average : List ℤ → Float
-average w = Ieee.div binary32 (inBinary32 (windowSum w)) (inBinary32 (pos 30))
+average w = Ieee.div binary32 (inBinary32 (windowSum w)) (inBinary32 (pos windowSize))
 
 -- both averages together
 unfoldable pub averagesOf : TimeSync → Averages

@@ -11,6 +11,10 @@ Under31 nan = ⊥
 Under31 (inf s) = ⊥
 Under31 (fin s m e) = m * up e < 2 ^ 31 * down e
 
+-- the bits of 2^31, without the sign's: the exponent's field is 158, and the digits are 0
+abbrev pub bitsOf31 : ℕ
+bitsOf31 = 158 * 2 ^ 23
+
 -- the exponent's field x and the digits t stand for (2^23 + t) * 2^x / 2^150, for an x above 0; at 0 the whole part is 0 either way
 unfoldable pub wholeOf : ℕ → ℕ
 wholeOf b = (2 ^ 23 + b % 2 ^ 23) * 2 ^ (b / 2 ^ 23) / 2 ^ 150

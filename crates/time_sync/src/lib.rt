@@ -65,28 +65,7 @@ impl TimeSync {
         }
     }
 
-    // Writes the frame's slot of each window. A frame below 0 is refused.
-    pub fn advance_frame(self, frame: i32, local_adv: i32, remote_adv: i32) -> Advanced
-        ensures { λ r. ⌜ r ≡ advanced self frame «local_adv» «remote_adv» ⌝ }
-    {
-        let slot = slot_of(frame);
-        if slot >= WINDOW {
-            return Advanced {
-                no: frame_info::refusal::FRAME_BELOW_ZERO,
-                sync: self,
-            };
-        }
-        let mut local = self.local;
-        local[slot] = local_adv;
-        let mut remote = self.remote;
-        remote[slot] = remote_adv;
-        Advanced {
-            no: frame_info::refusal::DONE,
-            sync: TimeSync { local, remote },
-        }
-    }
-
-    // The same on windows that are lent: one slot of each is written where it stands, and the answer is the number.
+    // Writes the frame's slot of each window where it stands, and answers the number. A frame below 0 is refused.
     pub fn advance(&mut self, frame: i32, local_adv: i32, remote_adv: i32) -> u32
         ensures { λ r. ⌜ (r ≡ advanced (now (self .entry)) frame «local_adv» «remote_adv» .no)
             × (now (self .exit) ≡ advanced (now (self .entry)) frame «local_adv» «remote_adv» .sync) ⌝ }
@@ -98,6 +77,14 @@ impl TimeSync {
             return frame_info::refusal::DONE;
         }
         frame_info::refusal::FRAME_BELOW_ZERO
+    }
+
+    // The same by value: the copy that was passed is lent.
+    pub fn advance_frame(mut self, frame: i32, local_adv: i32, remote_adv: i32) -> Advanced
+        ensures { λ r. ⌜ r ≡ advanced self frame «local_adv» «remote_adv» ⌝ }
+    {
+        let no = TimeSync::advance(&mut self, frame, local_adv, remote_adv);
+        Advanced { no, sync: self }
     }
 
     // Both averages together.

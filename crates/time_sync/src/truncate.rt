@@ -1,29 +1,33 @@
 // A binary32 without its fraction, from its bits: one bit of sign, eight of exponent, twenty-three of digits below the leading one.
 ghost use mathlib.Core.Path.{_≡_};
-ghost use Prim.Native.Nat.{_<_, _*_, _^_};
+ghost use Prim.Native.Nat.{_<_};
 ghost use lib.Ieee.{toSigned};
-ghost use Rattle.time_sync.specs.Bits.{wholeOf, Under31};
+ghost use Rattle.time_sync.specs.Bits.{wholeOf, bitsOf31, Under31};
 
 // The weight of the sign, and that of the exponent's field, which is the leading digit's too.
 const SIGN: u32 = 0x8000_0000;
 
 const LEADING: u32 = 0x80_0000;
 
-// The whole part of the number whose bits, without the sign's, are these. The exponent's field is 127
-// for 1, 150 where the last digit counts 1, and below 158 for a number below 2^31.
+// The exponent's field for 1, and where the last digit counts 1.
+const ONE: u32 = 127;
+
+const WHOLE: u32 = 150;
+
+// The whole part of the number whose bits, without the sign's, are these, for one below 2^31.
 fn whole_of(rest: u32) -> u32
-    requires { ⌜ rest < 158 * 2 ^ 23 ⌝ }
+    requires { ⌜ rest < bitsOf31 ⌝ }
     ensures { λ r. ⌜ r ≡ wholeOf rest ⌝ }
 {
     let field = rest / LEADING;
     let digits = LEADING + rest % LEADING;
-    if field < 127 {
+    if field < ONE {
         return 0;
     }
-    if field <= 150 {
-        return digits >> (150 - field);
+    if field <= WHOLE {
+        return digits >> (WHOLE - field);
     }
-    digits << (field - 150)
+    digits << (field - WHOLE)
 }
 
 // x without its fraction, for an x that is less than 2^31 in size.

@@ -1,28 +1,20 @@
 // A sum of i32 that wraps in 32 bits. The work is done on the bits, where the kit has an add that wraps.
 use crate::WINDOW;
+use frame_info::signed_of;
 ghost use mathlib.Core.Path.{_≡_};
-ghost use mir.Syntax.{w32};
-ghost use mir.Val.{toZ};
 ghost use Rattle.time_sync.specs.Sums.{residue, windowSum};
+
+// The highest number of 32 bits.
+const HIGHEST: u32 = 0xffff_ffff;
 
 // The number modulo 2^32.
 fn bits_of(x: i32) -> u32
     ensures { λ r. ⌜ r ≡ residue x ⌝ }
 {
     if x < 0 {
-        return 4294967295 - ((-1 - x) as u32);
+        return HIGHEST - ((-1 - x) as u32);
     }
     x as u32
-}
-
-// The i32 that has these bits.
-fn of_bits(bits: u32) -> i32
-    ensures { λ r. ⌜ r ≡ toZ w32 bits ⌝ }
-{
-    if bits < 2147483648 {
-        return bits as i32;
-    }
-    -1 - ((4294967295 - bits) as i32)
 }
 
 // The sum of a window's thirty entries, modulo 2^32.
@@ -35,5 +27,5 @@ pub fn sum(window: [i32; WINDOW]) -> i32
         total = std::num::wrapping_add_u32(total, bits_of(window[i]));
         i += 1;
     }
-    of_bits(total)
+    signed_of(total)
 }

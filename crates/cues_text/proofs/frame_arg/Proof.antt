@@ -5,7 +5,7 @@ use Rattle.cues_text.proofs.frame_arg.Tie as tie
 use Rattle.cues_text.proofs.frame_arg.Reads as reads
 use Rattle.cues_text.proofs.frame_arg.Lts as lts
 use Rattle.cues_text.proofs.low.Reads as low-reads
-use Rattle.digits.proofs.signed_of.Reads as signed-of-reads
+use Rattle.frame_info.proofs.signed_of.Reads as signed-of-reads
 
 -- src/lib.rt:36:27
 mul-low : tie.Need-mul-low

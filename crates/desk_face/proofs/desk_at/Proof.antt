@@ -1,4 +1,4 @@
-use Rattle.desk_face.proofs.Face.{faces}
+use Rattle.desk_face.proofs.Face.{lists}
 use borrow.Author.Needs.{needs}
 use Rattle.desk_face.proofs.desk_at.Statement.{statement}
 use Rattle.desk_face.proofs.desk_at.Tie as tie
@@ -35,7 +35,7 @@ shared-slice-read-t15 c = search needs
 
 -- src/lib.rt:23:1
 returns : tie.Need-returns
-returns c = search (needs, faces)
+returns c = search (needs, lists)
 
 pub desk-at-spec : {M : Type 1} → statement M
 desk-at-spec =

@@ -1,6 +1,6 @@
 use native.Mathlib.Omega.{arith}
 use lib.ListN.{length-set}
-use Rattle.desk_face.proofs.Face.{looks}
+use Rattle.desk_face.proofs.Face.{lists}
 use borrow.Author.Needs.{needs}
 use Rattle.desk_face.proofs.set_console.Statement.{statement}
 use Rattle.desk_face.proofs.set_console.Tie as tie
@@ -25,7 +25,7 @@ same-length c = search needs
 
 -- src/lib.rt:64:1
 returns : tie.Need-returns
-returns c = search (needs, looks)
+returns c = search (needs, lists)
 
 pub set-console-spec : {M : Type 1} → statement M
 set-console-spec =

@@ -1,6 +1,6 @@
 use native.Mathlib.Omega.{arith}
 use lib.ListN.{length-set}
-use Rattle.desk_face.proofs.Face.{faces}
+use Rattle.desk_face.proofs.Face.{lists}
 use borrow.Author.Needs.{needs}
 use Rattle.desk_face.proofs.set_desk.Statement.{statement}
 use Rattle.desk_face.proofs.set_desk.Tie as tie
@@ -41,7 +41,7 @@ same-length c = search needs
 
 -- src/lib.rt:40:1
 returns : tie.Need-returns
-returns c = search (needs, faces)
+returns c = search (needs, lists)
 
 pub set-desk-spec : {M : Type 1} → statement M
 set-desk-spec =

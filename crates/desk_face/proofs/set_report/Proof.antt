@@ -1,4 +1,4 @@
-use Rattle.desk_face.proofs.Face.{faces}
+use Rattle.desk_face.proofs.Face.{lists}
 use borrow.Author.Needs.{needs}
 use Rattle.desk_face.proofs.set_report.Statement.{statement}
 use Rattle.desk_face.proofs.set_report.Tie as tie
@@ -24,7 +24,7 @@ same-length c = search needs
 
 -- src/lib.rt:54:1
 returns : tie.Need-returns
-returns c = search (needs, faces)
+returns c = search (needs, lists)
 
 pub set-report-spec : {M : Type 1} → statement M
 set-report-spec =

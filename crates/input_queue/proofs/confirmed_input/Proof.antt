@@ -9,47 +9,47 @@ use Rattle.frame_info.proofs.PlayerInput.new.Reads as new-reads
 use Rattle.frame_info.proofs.count_of.Reads as count-of-reads
 use Rattle.input_queue.proofs.found_refusal.Reads as found-refusal-reads
 
--- src/lib.rt:173:9
+-- src/lib.rt:179:9
 count-of-requires : tie.Need-count-of-requires
 count-of-requires c κs = search needs
 
--- src/lib.rt:174:9
+-- src/lib.rt:180:9
 found-refusal-requires : tie.Need-found-refusal-requires
 found-refusal-requires c κs = search needs
 
--- src/lib.rt:178:20
+-- src/lib.rt:184:20
 blank-input-requires : tie.Need-blank-input-requires
 blank-input-requires c κs = search needs
 
--- src/lib.rt:176:9
+-- src/lib.rt:182:9
 returns : tie.Need-returns
 returns c = search (needs, answers)
 
--- src/lib.rt:181:23
+-- src/lib.rt:187:22
 sub-at : tie.Need-sub-at
 sub-at c = search (needs, answers)
 
--- src/lib.rt:181:21
+-- src/lib.rt:187:21
 cast-at : tie.Need-cast-at
 cast-at c = search needs
 
--- src/lib.rt:181:14
+-- src/lib.rt:187:14
 add-at : tie.Need-add-at
 add-at c = search needs
 
--- src/lib.rt:184:40
+-- src/lib.rt:190:40
 mul-new : tie.Need-mul-new
 mul-new c = search needs
 
--- src/lib.rt:184:40
+-- src/lib.rt:190:40
 shared-slice-read-new : tie.Need-shared-slice-read-new
 shared-slice-read-new c = search needs
 
--- src/lib.rt:184:16
+-- src/lib.rt:190:16
 new-requires : tie.Need-new-requires
 new-requires c κs = search needs
 
--- src/lib.rt:169:1
+-- src/lib.rt:175:1
 returns-2 : tie.Need-returns-2
 returns-2 c = search (needs, answers)
 

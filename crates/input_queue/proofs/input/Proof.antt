@@ -8,31 +8,26 @@ use Rattle.frame_info.proofs.count_of.Reads as count-of-reads
 use Rattle.input_queue.proofs.input_refusal.Reads as input-refusal-reads
 use Rattle.input_queue.proofs.steps.ask.Reads as ask-reads
 
--- src/lib.rt:148:9
+-- src/lib.rt:154:9
 count-of-requires : tie.Need-count-of-requires
 count-of-requires c κs = search needs
 
--- src/lib.rt:149:9
+-- src/lib.rt:155:9
 input-refusal-requires : tie.Need-input-refusal-requires
 input-refusal-requires c κs = search needs
 
--- src/lib.rt:151:9
+-- src/lib.rt:157:9
 returns : tie.Need-returns
 returns c = search (needs, answers)
 
--- src/lib.rt:158:48
-sub-ask : tie.Need-sub-ask
-sub-ask c = search (needs, answers)
-
--- src/lib.rt:158:9
+-- src/lib.rt:164:9
 ask-requires : tie.Need-ask-requires
-ask-requires c κs = search (needs, answers)
+ask-requires c κs = search needs
 
--- src/lib.rt:144:1
+-- src/lib.rt:150:1
 returns-2 : tie.Need-returns-2
 returns-2 c = search (needs, answers)
 
 pub input-spec : {M : Type 1} → statement M
 input-spec =
-    tie.close
-    (tie.spec count-of-requires input-refusal-requires returns sub-ask ask-requires returns-2)
+    tie.close (tie.spec count-of-requires input-refusal-requires returns ask-requires returns-2)

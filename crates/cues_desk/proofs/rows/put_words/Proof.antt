@@ -23,8 +23,8 @@ mul-put-word-value : tie.Need-mul-put-word-value Inv-loop μ-loop
 mul-put-word-value c = search needs
 
 -- src/rows.rt:35:42
-shared-slice-read-put-word-value : tie.Need-shared-slice-read-put-word-value Inv-loop μ-loop
-shared-slice-read-put-word-value c = search needs
+element-copy-out-put-word-value : tie.Need-element-copy-out-put-word-value Inv-loop μ-loop
+element-copy-out-put-word-value c = search needs
 
 -- src/rows.rt:35:9
 put-word-value-requires : tie.Need-put-word-value-requires Inv-loop μ-loop
@@ -58,7 +58,7 @@ put-words-spec =
     μ-loop
     loop-holds
     mul-put-word-value
-    shared-slice-read-put-word-value
+    element-copy-out-put-word-value
     put-word-value-requires
     add-i
     loop-less

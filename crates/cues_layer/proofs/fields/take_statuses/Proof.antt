@@ -8,7 +8,7 @@ use Rattle.cues_layer.proofs.fields.take_statuses.Reads as reads
 use Rattle.cues_layer.proofs.fields.take_statuses.Lts as lts
 use Rattle.cues_layer.proofs.fields.is_gone.Reads as is-gone-reads
 use Rattle.cues_text.proofs.low.Reads as low-reads
-use Rattle.digits.proofs.signed_of.Reads as signed-of-reads
+use Rattle.frame_info.proofs.signed_of.Reads as signed-of-reads
 
 abbrev Inv-loop : tie.InvT-loop
 Inv-loop args from n gone₀ lasts₀ i₀ gone lasts i = (i ≤ n) × (length gone ≡ length gone₀) × (length lasts ≡ length lasts₀)

@@ -1,7 +1,7 @@
-use borrow.Author.Needs.{needs}
 use Prim.Native.Nat.{_+_, _-_, _*_, _≤_}
 use mathlib.Core.Path.{_≡_}
 use lib.ListN.{length}
+use borrow.Author.Needs.{needs}
 use Rattle.cues_layer.proofs.tell.put_all_found.Statement.{statement}
 use Rattle.cues_layer.proofs.tell.put_all_found.Tie as tie
 use Rattle.cues_layer.proofs.tell.put_all_found.Reads as reads
@@ -14,47 +14,47 @@ Inv-loop out₀ at frames words n end₀ i₀ out end i = (i ≤ n) × (end ≤ 
 abbrev μ-loop : tie.MeasureT-loop
 μ-loop out₀ at frames words n end₀ i₀ out end i = n - i
 
--- src/tell.rt:99:5
+-- src/tell.rt:102:5
 loop-holds : tie.Need-loop-holds Inv-loop μ-loop
 loop-holds c = search needs
 
--- src/tell.rt:100:35
+-- src/tell.rt:103:35
 mul-put-found : tie.Need-mul-put-found Inv-loop μ-loop
 mul-put-found c = search needs
 
--- src/tell.rt:100:35
-shared-slice-copy-out-put-found : tie.Need-shared-slice-copy-out-put-found Inv-loop μ-loop
-shared-slice-copy-out-put-found c = search needs
+-- src/tell.rt:103:35
+element-copy-out-put-found : tie.Need-element-copy-out-put-found Inv-loop μ-loop
+element-copy-out-put-found c = search needs
 
--- src/tell.rt:100:46
+-- src/tell.rt:103:46
 mul-put-found-2 : tie.Need-mul-put-found-2 Inv-loop μ-loop
 mul-put-found-2 c = search needs
 
--- src/tell.rt:100:46
-shared-slice-read-put-found : tie.Need-shared-slice-read-put-found Inv-loop μ-loop
-shared-slice-read-put-found c = search needs
+-- src/tell.rt:103:46
+element-copy-out-put-found-2 : tie.Need-element-copy-out-put-found-2 Inv-loop μ-loop
+element-copy-out-put-found-2 c = search needs
 
--- src/tell.rt:100:9
+-- src/tell.rt:103:9
 put-found-requires : tie.Need-put-found-requires Inv-loop μ-loop
 put-found-requires c κs = search needs
 
--- src/tell.rt:101:9
+-- src/tell.rt:104:9
 add-i : tie.Need-add-i Inv-loop μ-loop
 add-i c = search needs
 
--- src/tell.rt:99:5
+-- src/tell.rt:102:5
 loop-less : tie.Need-loop-less Inv-loop μ-loop
 loop-less c = search needs
 
--- src/tell.rt:99:5
+-- src/tell.rt:102:5
 loop-again : tie.Need-loop-again Inv-loop μ-loop
 loop-again c = search needs
 
--- src/tell.rt:93:1
+-- src/tell.rt:96:1
 same-length : tie.Need-same-length Inv-loop μ-loop
 same-length c = search needs
 
--- src/tell.rt:93:1
+-- src/tell.rt:96:1
 returns : tie.Need-returns Inv-loop μ-loop
 returns c = search needs
 
@@ -66,9 +66,9 @@ put-all-found-spec =
     μ-loop
     loop-holds
     mul-put-found
-    shared-slice-copy-out-put-found
+    element-copy-out-put-found
     mul-put-found-2
-    shared-slice-read-put-found
+    element-copy-out-put-found-2
     put-found-requires
     add-i
     loop-less

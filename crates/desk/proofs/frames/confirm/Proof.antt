@@ -4,7 +4,7 @@ use Rattle.desk.proofs.frames.confirm.Statement.{statement}
 use Rattle.desk.proofs.frames.confirm.Tie as tie
 use Rattle.desk.proofs.frames.confirm.Reads as reads
 use Rattle.desk.proofs.frames.confirm.Lts as lts
-use Rattle.desk.proofs.frames.lesser.Reads as lesser-reads
+use Rattle.frame_info.proofs.lesser.Reads as lesser-reads
 use Rattle.desk.proofs.showing.known_count.Reads as known-count-reads
 use Rattle.sync_layer.proofs.discard_seats.Reads as discard-seats-reads
 

@@ -5,12 +5,12 @@ use Rattle.desk.proofs.frames.serve_frame.Tie as tie
 use Rattle.desk.proofs.frames.serve_frame.Reads as reads
 use Rattle.desk.proofs.frames.serve_frame.Lts as lts
 use Rattle.desk.proofs.frames.play.Reads as play-reads
-use Rattle.desk.proofs.frames.put_standings.Reads as put-standings-reads
+use Rattle.desk.proofs.frames.put_statuses.Reads as put-statuses-reads
 use Rattle.desk.proofs.showing.put_words.Reads as put-words-reads
 
 -- src/frames.rt:197:5
-put-standings-requires : tie.Need-put-standings-requires
-put-standings-requires c κs = search needs
+put-statuses-requires : tie.Need-put-statuses-requires
+put-statuses-requires c κs = search needs
 
 -- src/frames.rt:198:16
 add-play : tie.Need-add-play
@@ -49,7 +49,7 @@ pub serve-frame-spec : {M : Type 1} → statement M
 serve-frame-spec =
     tie.close
     (tie.spec
-    put-standings-requires
+    put-statuses-requires
     add-play
     play-requires
     put-words-requires

@@ -34,6 +34,10 @@ seat-at-requires c κs = search (needs, servings)
 mul-ask : tie.Need-mul-ask Inv-loop μ-loop
 mul-ask c = search (needs, servings)
 
+-- src/frames.rt:41:64
+add-ask : tie.Need-add-ask Inv-loop μ-loop
+add-ask c = search needs
+
 -- src/frames.rt:41:13
 ask-requires : tie.Need-ask-requires Inv-loop μ-loop
 ask-requires c κs = search (needs, servings)
@@ -89,6 +93,7 @@ serve-seats-spec =
     loop-holds
     seat-at-requires
     mul-ask
+    add-ask
     ask-requires
     set-seat-requires
     add-slots

@@ -7,11 +7,11 @@ use Rattle.desk.proofs.showing.known_count.Statement.{statement}
 use Rattle.desk.proofs.showing.known_count.Tie as tie
 use Rattle.desk.proofs.showing.known_count.Reads as reads
 use Rattle.desk.proofs.showing.known_count.Lts as lts
-use Rattle.desk.proofs.frames.lesser.Reads as lesser-reads
+use Rattle.frame_info.proofs.lesser.Reads as lesser-reads
 use Rattle.sync_layer.proofs.seat_at.Reads as seat-at-reads
 
 abbrev Inv-loop : tie.InvT-loop
-Inv-loop seats n least₀ i₀ least i = Least n (λ s. seatAt seats s .added) least i
+Inv-loop seats n least₀ i₀ least i = Least n (λ s. seatAt seats s .«last_added_count») least i
 
 abbrev μ-loop : tie.MeasureT-loop
 μ-loop seats n least₀ i₀ least i = n - i

@@ -8,39 +8,43 @@ use Rattle.desk.proofs.line.put_line.Reads as put-line-reads
 use Rattle.desk.proofs.showing.log_refusal.Reads as log-refusal-reads
 use Rattle.frame_info.proofs.count_of.Reads as count-of-reads
 
--- src/showing.rt:162:9
+-- src/showing.rt:169:9
 count-of-requires : tie.Need-count-of-requires
 count-of-requires c κs = search needs
 
--- src/showing.rt:163:9
+-- src/showing.rt:170:9
 log-refusal-requires : tie.Need-log-refusal-requires
 log-refusal-requires c κs = search needs
 
--- src/showing.rt:165:9
+-- src/showing.rt:172:9
 returns : tie.Need-returns
 returns c = search (needs, logs)
 
--- src/showing.rt:167:27
+-- src/showing.rt:174:27
 sub-put-line : tie.Need-sub-put-line
 sub-put-line c = search (needs, logs)
 
--- src/showing.rt:167:5
+-- src/showing.rt:174:5
 put-line-requires : tie.Need-put-line-requires
 put-line-requires c κs = search (needs, logs)
 
--- src/showing.rt:170:21
-add-t11 : tie.Need-add-t11
-add-t11 c = search needs
+-- src/showing.rt:177:16
+cast-t11 : tie.Need-cast-t11
+cast-t11 c = search needs
 
--- src/showing.rt:170:16
-mul-t14 : tie.Need-mul-t14
-mul-t14 c = search needs
+-- src/showing.rt:177:39
+add-t14 : tie.Need-add-t14
+add-t14 c = search needs
 
--- src/showing.rt:157:1
+-- src/showing.rt:177:16
+mul-t15 : tie.Need-mul-t15
+mul-t15 c = search needs
+
+-- src/showing.rt:164:1
 same-length : tie.Need-same-length
 same-length c = search needs
 
--- src/showing.rt:157:1
+-- src/showing.rt:164:1
 returns-2 : tie.Need-returns-2
 returns-2 c = search (needs, logs)
 
@@ -53,7 +57,8 @@ log-spec =
     returns
     sub-put-line
     put-line-requires
-    add-t11
-    mul-t14
+    cast-t11
+    add-t14
+    mul-t15
     same-length
     returns-2)

@@ -43,10 +43,6 @@ shown-state-requires : tie.Need-shown-state-requires
 shown-state-requires c κs = search needs
 
 -- src/showing.rt:121:1
-same-length : tie.Need-same-length
-same-length c = search needs
-
--- src/showing.rt:121:1
 returns-2 : tie.Need-returns-2
 returns-2 c = search (needs, shows)
 
@@ -62,5 +58,4 @@ show-spec =
     put-words-requires
     sub-shown-state
     shown-state-requires
-    same-length
     returns-2)

@@ -6,31 +6,23 @@ use Rattle.desk_value.proofs.Desk.advance.Reads as reads
 use Rattle.desk_value.proofs.Desk.advance.Lts as lts
 use Rattle.desk.proofs.advance.Reads as advance-reads
 
--- src/lib.rt:132:31
+-- src/lib.rt:131:31
 slice-aggregate-advance : tie.Need-slice-aggregate-advance
 slice-aggregate-advance c = search needs
 
--- src/lib.rt:132:43
+-- src/lib.rt:131:43
 slice-aggregate-advance-2 : tie.Need-slice-aggregate-advance-2
 slice-aggregate-advance-2 c = search needs
 
--- src/lib.rt:132:51
+-- src/lib.rt:131:51
 slice-aggregate-advance-3 : tie.Need-slice-aggregate-advance-3
 slice-aggregate-advance-3 c = search needs
 
--- src/lib.rt:132:13
+-- src/lib.rt:131:13
 advance-requires : tie.Need-advance-requires
 advance-requires c κs = search needs
 
--- src/lib.rt:122:5
-same-length : tie.Need-same-length
-same-length c = search needs
-
--- src/lib.rt:122:5
-same-length-2 : tie.Need-same-length-2
-same-length-2 c = search needs
-
--- src/lib.rt:122:5
+-- src/lib.rt:121:5
 returns : tie.Need-returns
 returns c = search (needs, holding)
 
@@ -42,6 +34,4 @@ advance-spec =
     slice-aggregate-advance-2
     slice-aggregate-advance-3
     advance-requires
-    same-length
-    same-length-2
     returns)

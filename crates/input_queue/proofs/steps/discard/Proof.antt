@@ -1,6 +1,4 @@
-use native.Mathlib.Omega.{arith}
 use Rattle.input_queue.specs.Queue.{discard}
-use Rattle.input_queue.proofs.Cases.{cap-le}
 use borrow.Author.Needs.{needs}
 use Rattle.input_queue.proofs.steps.discard.Statement.{statement}
 use Rattle.input_queue.proofs.steps.discard.Tie as tie
@@ -9,15 +7,15 @@ use Rattle.input_queue.proofs.steps.discard.Lts as lts
 use Rattle.input_queue.proofs.steps.capped.Reads as capped-reads
 use Rattle.input_queue.proofs.steps.oldest_after.Reads as oldest-after-reads
 
--- src/steps.rt:242:34
+-- src/steps.rt:244:32
 capped-requires : tie.Need-capped-requires
 capped-requires c κs = search needs
 
--- src/steps.rt:242:9
+-- src/steps.rt:244:5
 oldest-after-requires : tie.Need-oldest-after-requires
-oldest-after-requires c κs = omega (arith, c .capped .ensures, cap-le (c .before .args .s) (c .before .args .frame))
+oldest-after-requires c κs = search needs
 
--- src/steps.rt:238:1
+-- src/steps.rt:240:1
 returns : tie.Need-returns
 unfolding discard
 returns c = rw (← c .before .capped .ensures, ← c .oldest-after .ensures)

@@ -7,19 +7,19 @@ use Rattle.input_queue.proofs.steps.fresh_guess.Lts as lts
 use Rattle.frame_info.proofs.predict.Reads as predict-reads
 use Rattle.input_queue.proofs.steps.newest_word.Reads as newest-word-reads
 
--- src/steps.rt:149:9
+-- src/steps.rt:163:9
 returns : tie.Need-returns
 returns c = search (needs, newests)
 
--- src/steps.rt:151:24
+-- src/steps.rt:165:24
 newest-word-requires : tie.Need-newest-word-requires
 newest-word-requires c κs = search needs
 
--- src/steps.rt:151:5
+-- src/steps.rt:165:5
 predict-requires : tie.Need-predict-requires
 predict-requires c κs = search needs
 
--- src/steps.rt:144:1
+-- src/steps.rt:158:1
 returns-2 : tie.Need-returns-2
 returns-2 c = search (needs, newests)
 

@@ -5,7 +5,7 @@ use Rattle.input_queue.proofs.steps.reset.Tie as tie
 use Rattle.input_queue.proofs.steps.reset.Reads as reads
 use Rattle.input_queue.proofs.steps.reset.Lts as lts
 
--- src/steps.rt:199:1
+-- src/steps.rt:212:1
 returns : tie.Need-returns
 unfolding reset
 returns c = refl

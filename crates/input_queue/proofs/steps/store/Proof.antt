@@ -4,43 +4,43 @@ use Rattle.input_queue.proofs.steps.store.Statement.{statement}
 use Rattle.input_queue.proofs.steps.store.Tie as tie
 use Rattle.input_queue.proofs.steps.store.Reads as reads
 use Rattle.input_queue.proofs.steps.store.Lts as lts
+use Rattle.input_queue.proofs.steps.add_input_by_frame.Reads as add-input-by-frame-reads
 use Rattle.input_queue.proofs.steps.fill.Reads as fill-reads
 use Rattle.input_queue.proofs.steps.newest_word.Reads as newest-word-reads
-use Rattle.input_queue.proofs.steps.put.Reads as put-reads
 
--- src/steps.rt:111:17
+-- src/steps.rt:142:17
 add-place : tie.Need-add-place
 add-place c = search needs
 
--- src/steps.rt:114:15
-add-t12 : tie.Need-add-t12
-add-t12 c = search needs
+-- src/steps.rt:144:29
+add-state : tie.Need-add-state
+add-state c = search needs
 
--- src/steps.rt:123:9
+-- src/steps.rt:146:9
 returns : tie.Need-returns
 returns c = search (needs, storing)
 
--- src/steps.rt:125:9
+-- src/steps.rt:148:9
 newest-word-requires : tie.Need-newest-word-requires
 newest-word-requires c κs = search needs
 
--- src/steps.rt:126:9
+-- src/steps.rt:149:9
 fill-requires : tie.Need-fill-requires
 fill-requires c κs = search needs
 
--- src/steps.rt:127:9
-put-requires : tie.Need-put-requires
-put-requires c κs = search (needs, storing)
+-- src/steps.rt:150:9
+add-input-by-frame-requires : tie.Need-add-input-by-frame-requires
+add-input-by-frame-requires c κs = search (needs, storing)
 
--- src/steps.rt:129:16
-add-t12-2 : tie.Need-add-t12-2
-add-t12-2 c = search needs
+-- src/steps.rt:152:16
+add-t19 : tie.Need-add-t19
+add-t19 c = search needs
 
--- src/steps.rt:104:1
+-- src/steps.rt:135:1
 same-length : tie.Need-same-length
 same-length c = search needs
 
--- src/steps.rt:104:1
+-- src/steps.rt:135:1
 returns-2 : tie.Need-returns-2
 returns-2 c = search (needs, storing)
 
@@ -49,11 +49,11 @@ store-spec =
     tie.close
     (tie.spec
     add-place
-    add-t12
+    add-state
     returns
     newest-word-requires
     fill-requires
-    put-requires
-    add-t12-2
+    add-input-by-frame-requires
+    add-t19
     same-length
     returns-2)

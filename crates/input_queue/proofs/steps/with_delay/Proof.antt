@@ -5,7 +5,7 @@ use Rattle.input_queue.proofs.steps.with_delay.Tie as tie
 use Rattle.input_queue.proofs.steps.with_delay.Reads as reads
 use Rattle.input_queue.proofs.steps.with_delay.Lts as lts
 
--- src/steps.rt:255:1
+-- src/steps.rt:248:1
 returns : tie.Need-returns
 unfolding delayed
 returns c = refl

@@ -28,7 +28,7 @@ seat-at-requires c κs = omega arith
 
 -- src/seats.rt:75:28
 discard-requires : tie.Need-discard-requires Inv-loop μ-loop
-discard-requires c κs = omega arith
+discard-requires c κs = search needs
 
 -- src/seats.rt:75:9
 set-seat-requires : tie.Need-set-seat-requires Inv-loop μ-loop

@@ -12,7 +12,7 @@ use Rattle.sync_layer.proofs.seats.lower_of.Reads as lower-of-reads
 use Rattle.sync_layer.proofs.seats.seat_at.Reads as seat-at-reads
 
 abbrev Inv-loop : tie.InvT-loop
-Inv-loop seats n lowest₀ i₀ lowest i = Lowest n (λ j. seatAt seats j .wrong) lowest i
+Inv-loop seats n lowest₀ i₀ lowest i = Lowest n (λ j. seatAt seats j .«first_incorrect_count») lowest i
 
 abbrev μ-loop : tie.MeasureT-loop
 μ-loop seats n lowest₀ i₀ lowest i = n - i

@@ -10,75 +10,66 @@ use Rattle.sync_layer.proofs.serving.find_seats.Reads as reads
 use Rattle.sync_layer.proofs.serving.find_seats.Lts as lts
 use Rattle.sync_layer.proofs.serving.confirmed_frame.Reads as confirmed-frame-reads
 use Rattle.sync_layer.proofs.serving.confirmed_word.Reads as confirmed-word-reads
-use Rattle.sync_layer.proofs.serving.gone_below.Reads as gone-below-reads
 
 abbrev Inv-loop : tie.InvT-loop
-Inv-loop words disconnected last-frame count frames₀ inputs₀ n at i₀ frames inputs i = Finding n frames₀ inputs₀ (calls.confirmedFrame disconnected last-frame count) (calls.confirmedWord words disconnected last-frame count) frames inputs i
+Inv-loop words disconnected last-frame count frames₀ inputs₀ n i₀ frames inputs i = Finding n frames₀ inputs₀ (calls.confirmedFrame disconnected last-frame count) (calls.confirmedWord words disconnected last-frame count) frames inputs i
 
 abbrev μ-loop : tie.MeasureT-loop
-μ-loop words disconnected last-frame count frames₀ inputs₀ n at i₀ frames inputs i = n - i
+μ-loop words disconnected last-frame count frames₀ inputs₀ n i₀ frames inputs i = n - i
 
--- src/serving.rt:201:13
+-- src/serving.rt:308:13
 cast-n : tie.Need-cast-n Inv-loop μ-loop
 cast-n c = omega arith
 
--- src/serving.rt:202:14
-sub-at : tie.Need-sub-at Inv-loop μ-loop
-sub-at c = omega arith
-
--- src/serving.rt:204:5
+-- src/serving.rt:310:5
 loop-holds : tie.Need-loop-holds Inv-loop μ-loop
 loop-holds c = search (needs, lookups)
 
--- src/serving.rt:205:13
-gone-below-requires : tie.Need-gone-below-requires Inv-loop μ-loop
-gone-below-requires c κs = omega arith
-
--- src/serving.rt:206:21
+-- src/serving.rt:311:21
 confirmed-frame-requires : tie.Need-confirmed-frame-requires Inv-loop μ-loop
-confirmed-frame-requires c κs = omega arith
+confirmed-frame-requires c κs = search needs
 
--- src/serving.rt:206:9
-mul-t14 : tie.Need-mul-t14 Inv-loop μ-loop
-mul-t14 c = omega arith
+-- src/serving.rt:311:9
+mul-t12 : tie.Need-mul-t12 Inv-loop μ-loop
+mul-t12 c = omega arith
 
--- src/serving.rt:206:9
+-- src/serving.rt:311:9
 slice-set-from-frames : tie.Need-slice-set-from-frames Inv-loop μ-loop
 slice-set-from-frames c = omega arith
 
--- src/serving.rt:207:21
+-- src/serving.rt:312:21
 confirmed-word-requires : tie.Need-confirmed-word-requires Inv-loop μ-loop
-confirmed-word-requires c κs = omega arith
+confirmed-word-requires c κs = search needs
 
--- src/serving.rt:207:9
+-- src/serving.rt:312:9
 mul-inputs : tie.Need-mul-inputs Inv-loop μ-loop
 mul-inputs c = omega arith
 
--- src/serving.rt:207:9
+-- src/serving.rt:312:9
 slice-write-inputs : tie.Need-slice-write-inputs Inv-loop μ-loop
 slice-write-inputs c = omega arith
 
--- src/serving.rt:208:9
+-- src/serving.rt:313:9
 add-i : tie.Need-add-i Inv-loop μ-loop
 add-i c = omega arith
 
--- src/serving.rt:204:5
+-- src/serving.rt:310:5
 loop-less : tie.Need-loop-less Inv-loop μ-loop
 loop-less c = omega arith
 
--- src/serving.rt:204:5
+-- src/serving.rt:310:5
 loop-again : tie.Need-loop-again Inv-loop μ-loop
 loop-again c = search (needs, lookups)
 
--- src/serving.rt:195:1
+-- src/serving.rt:294:1
 same-length : tie.Need-same-length Inv-loop μ-loop
 same-length c = omega arith
 
--- src/serving.rt:195:1
+-- src/serving.rt:294:1
 same-length-2 : tie.Need-same-length-2 Inv-loop μ-loop
 same-length-2 c = omega arith
 
--- src/serving.rt:195:1
+-- src/serving.rt:294:1
 returns : tie.Need-returns Inv-loop μ-loop
 returns c = search (needs, lookups)
 
@@ -89,11 +80,9 @@ find-seats-spec =
     Inv-loop
     μ-loop
     cast-n
-    sub-at
     loop-holds
-    gone-below-requires
     confirmed-frame-requires
-    mul-t14
+    mul-t12
     slice-set-from-frames
     confirmed-word-requires
     mul-inputs

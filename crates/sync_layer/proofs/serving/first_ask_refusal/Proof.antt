@@ -11,10 +11,10 @@ use Rattle.sync_layer.proofs.serving.first_ask_refusal.Lts as lts
 use Rattle.sync_layer.proofs.serving.ask_refusal.Reads as ask-refusal-reads
 
 abbrev Inv-loop : tie.InvT-loop
-Inv-loop seats layer disconnected last-frame n i₀ i = Unrefused (layer .seats) (calls.askRefusal layer seats disconnected last-frame) i
+Inv-loop seats layer disconnected last-frame n i₀ i = Unrefused (layer .«num_players») (calls.askRefusal layer seats disconnected last-frame) i
 
 abbrev μ-loop : tie.MeasureT-loop
-μ-loop seats layer disconnected last-frame n i₀ i = layer .seats - i
+μ-loop seats layer disconnected last-frame n i₀ i = layer .«num_players» - i
 
 -- src/serving.rt:53:13
 cast-n : tie.Need-cast-n Inv-loop μ-loop

@@ -11,10 +11,10 @@ use Rattle.sync_layer.proofs.serving.first_find_refusal.Lts as lts
 use Rattle.sync_layer.proofs.serving.find_refusal.Reads as find-refusal-reads
 
 abbrev Inv-loop : tie.InvT-loop
-Inv-loop seats layer disconnected last-frame count n i₀ i = Unrefused (layer .seats) (calls.findRefusal seats disconnected last-frame count) i
+Inv-loop seats layer disconnected last-frame count n i₀ i = Unrefused (layer .«num_players») (calls.findRefusal seats disconnected last-frame count) i
 
 abbrev μ-loop : tie.MeasureT-loop
-μ-loop seats layer disconnected last-frame count n i₀ i = layer .seats - i
+μ-loop seats layer disconnected last-frame count n i₀ i = layer .«num_players» - i
 
 -- src/serving.rt:149:13
 cast-n : tie.Need-cast-n Inv-loop μ-loop

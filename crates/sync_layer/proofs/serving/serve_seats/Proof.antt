@@ -6,61 +6,54 @@ use Rattle.sync_layer.proofs.serving.serve_seats.Statement.{statement}
 use Rattle.sync_layer.proofs.serving.serve_seats.Tie as tie
 use Rattle.sync_layer.proofs.serving.serve_seats.Reads as reads
 use Rattle.sync_layer.proofs.serving.serve_seats.Lts as lts
-use Rattle.sync_layer.proofs.serving.gone_below.Reads as gone-below-reads
 use Rattle.sync_layer.proofs.serving.serve_seat.Reads as serve-seat-reads
 
 abbrev Inv-loop : tie.InvT-loop
-Inv-loop seats₀ words layer disconnected last-frame inputs₀ statuses₀ n i₀ seats inputs statuses i =
-    Serving layer seats₀ words disconnected last-frame inputs₀ statuses₀ seats inputs statuses i
+Inv-loop seats₀ words layer disconnected last-frame inputs₀ statuses₀ n i₀ seats inputs statuses i = Serving layer seats₀ words disconnected last-frame inputs₀ statuses₀ seats inputs statuses i
 
 abbrev μ-loop : tie.MeasureT-loop
-μ-loop seats₀ words layer disconnected last-frame inputs₀ statuses₀ n i₀ seats inputs statuses i =
-    layer .seats - i
+μ-loop seats₀ words layer disconnected last-frame inputs₀ statuses₀ n i₀ seats inputs statuses i = layer .«num_players» - i
 
--- src/serving.rt:109:13
+-- src/serving.rt:158:13
 cast-n : tie.Need-cast-n Inv-loop μ-loop
 cast-n c = omega arith
 
--- src/serving.rt:111:5
+-- src/serving.rt:160:5
 loop-holds : tie.Need-loop-holds Inv-loop μ-loop
 loop-holds c = search (needs, servings)
 
--- src/serving.rt:112:13
-gone-below-requires : tie.Need-gone-below-requires Inv-loop μ-loop
-gone-below-requires c κs = omega arith
-
--- src/serving.rt:113:9
+-- src/serving.rt:161:9
 serve-seat-requires : tie.Need-serve-seat-requires Inv-loop μ-loop
 serve-seat-requires c κs =
-    let v = c .before .before .before .before .before .loop .inv in
-    let h = c .before .before .before .before .before .before .before .before .before .before .before .before .pre in
-    (serving-serves _ _ _ _ _ _ _ _ _ _ _ v (c .before .before .before .before .loop-test .taken) (h .0) (h .1), omega (arith, h), omega (arith, h))
+    let v = c .before .before .before .before .loop .inv in
+    let h = c .before .before .before .before .before .before .before .before .before .before .before .pre in
+    (serving-serves _ _ _ _ _ _ _ _ _ _ _ v (c .before .before .before .loop-test .taken) (h .0) (h .1), omega (arith, h), omega (arith, h), omega (arith, h), omega (arith, h))
 
--- src/serving.rt:114:9
+-- src/serving.rt:171:9
 add-i : tie.Need-add-i Inv-loop μ-loop
 add-i c = omega arith
 
--- src/serving.rt:111:5
+-- src/serving.rt:160:5
 loop-less : tie.Need-loop-less Inv-loop μ-loop
 loop-less c = omega arith
 
--- src/serving.rt:111:5
+-- src/serving.rt:160:5
 loop-again : tie.Need-loop-again Inv-loop μ-loop
 loop-again c = search (needs, servings)
 
--- src/serving.rt:102:1
+-- src/serving.rt:143:1
 same-length : tie.Need-same-length Inv-loop μ-loop
 same-length c = omega arith
 
--- src/serving.rt:102:1
+-- src/serving.rt:143:1
 same-length-2 : tie.Need-same-length-2 Inv-loop μ-loop
 same-length-2 c = omega arith
 
--- src/serving.rt:102:1
+-- src/serving.rt:143:1
 same-length-3 : tie.Need-same-length-3 Inv-loop μ-loop
 same-length-3 c = omega arith
 
--- src/serving.rt:102:1
+-- src/serving.rt:143:1
 returns : tie.Need-returns Inv-loop μ-loop
 returns c = search (needs, servings)
 
@@ -72,7 +65,6 @@ serve-seats-spec =
     μ-loop
     cast-n
     loop-holds
-    gone-below-requires
     serve-seat-requires
     add-i
     loop-less

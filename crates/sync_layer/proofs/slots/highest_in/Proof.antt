@@ -7,7 +7,7 @@ use Rattle.sync_layer.proofs.slots.highest_in.Statement.{statement}
 use Rattle.sync_layer.proofs.slots.highest_in.Tie as tie
 use Rattle.sync_layer.proofs.slots.highest_in.Reads as reads
 use Rattle.sync_layer.proofs.slots.highest_in.Lts as lts
-use Rattle.sync_layer.proofs.slots.higher.Reads as higher-reads
+use Rattle.frame_info.proofs.greater.Reads as greater-reads
 use Rattle.sync_layer.proofs.slots.within_both.Reads as within-both-reads
 
 abbrev Inv-loop : tie.InvT-loop
@@ -37,8 +37,8 @@ within-both-requires : tie.Need-within-both-requires Inv-loop μ-loop
 within-both-requires c κs = omega arith
 
 -- src/slots.rt:90:9
-higher-requires : tie.Need-higher-requires Inv-loop μ-loop
-higher-requires c κs = omega arith
+greater-requires : tie.Need-greater-requires Inv-loop μ-loop
+greater-requires c κs = omega arith
 
 -- src/slots.rt:91:9
 add-i : tie.Need-add-i Inv-loop μ-loop
@@ -67,7 +67,7 @@ highest-in-spec =
     mul-within-both
     shared-slice-read-within-both
     within-both-requires
-    higher-requires
+    greater-requires
     add-i
     loop-less
     loop-again

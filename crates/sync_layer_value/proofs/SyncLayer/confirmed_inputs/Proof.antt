@@ -14,14 +14,6 @@ slice-aggregate-confirmed-inputs c = search needs
 slice-aggregate-confirmed-inputs-2 : tie.Need-slice-aggregate-confirmed-inputs-2
 slice-aggregate-confirmed-inputs-2 c = search needs
 
--- src/lib.rt:262:99
-slice-aggregate-confirmed-inputs-3 : tie.Need-slice-aggregate-confirmed-inputs-3
-slice-aggregate-confirmed-inputs-3 c = search needs
-
--- src/lib.rt:262:112
-slice-aggregate-confirmed-inputs-4 : tie.Need-slice-aggregate-confirmed-inputs-4
-slice-aggregate-confirmed-inputs-4 c = search needs
-
 -- src/lib.rt:262:13
 confirmed-inputs-requires : tie.Need-confirmed-inputs-requires
 confirmed-inputs-requires c κs = search needs
@@ -36,7 +28,5 @@ confirmed-inputs-spec =
     (tie.spec
     slice-aggregate-confirmed-inputs
     slice-aggregate-confirmed-inputs-2
-    slice-aggregate-confirmed-inputs-3
-    slice-aggregate-confirmed-inputs-4
     confirmed-inputs-requires
     returns)

@@ -14,14 +14,6 @@ slice-aggregate-synchronized-inputs c = search needs
 slice-aggregate-synchronized-inputs-2 : tie.Need-slice-aggregate-synchronized-inputs-2
 slice-aggregate-synchronized-inputs-2 c = search needs
 
--- src/lib.rt:242:99
-slice-aggregate-synchronized-inputs-3 : tie.Need-slice-aggregate-synchronized-inputs-3
-slice-aggregate-synchronized-inputs-3 c = search needs
-
--- src/lib.rt:242:112
-slice-aggregate-synchronized-inputs-4 : tie.Need-slice-aggregate-synchronized-inputs-4
-slice-aggregate-synchronized-inputs-4 c = search needs
-
 -- src/lib.rt:242:13
 synchronized-inputs-requires : tie.Need-synchronized-inputs-requires
 synchronized-inputs-requires c κs = search needs
@@ -36,7 +28,5 @@ synchronized-inputs-spec =
     (tie.spec
     slice-aggregate-synchronized-inputs
     slice-aggregate-synchronized-inputs-2
-    slice-aggregate-synchronized-inputs-3
-    slice-aggregate-synchronized-inputs-4
     synchronized-inputs-requires
     returns)

@@ -10,8 +10,7 @@ use lib.Dec.{T, lit<, ltb→lt, nltb→le}
 use lib.IntN.{ℤ}
 use lib.Signed.{mag}
 use mir.Syntax.{Ty, named, mut, w32, w64, tyInt, tyBool, tyPtr, tyRef}
-use mir.Val.{Val, vint, vptr, ofZ, Fits}
-use mir.Facts.{fits-ofZ}
+use mir.Val.{Val, vint, vptr, Fits}
 use base.Logic.{SProp, ent, sep, emp, via, fst∗, snd∗, exE, id⊢}
 use base.Fml.{GName, Lft, Share, ftrue, flft, fobs, fbor, fat, froom, fdies}
 use prog.Memory.{Memory}
@@ -49,7 +48,7 @@ use Rattle.time_sync.specs.declared.TimeSync.{TimeSync}
 use Rattle.time_sync.specs.declared.Advanced.{Advanced}
 use Rattle.time_sync.proofs.Windows.{put, answered, advanced-none, advanced-some}
 use Rattle.time_sync.proofs.Element.{elt}
-use Rattle.time_sync.proofs.Lent.{bits, window, written-val, local-long, remote-long, put-is}
+use Rattle.time_sync.proofs.Lent.{bits, entry, window, written-val, local-long, remote-long, put-is}
 use Rattle.time_sync.proofs.TimeSync as T
 use Rattle.time_sync.proofs.TimeSync.Laws as T′
 use Rattle.time_sync.proofs.slot_of as slot-of
@@ -68,12 +67,9 @@ Arg = RefT TimeSync × (ℤ × (ℤ × (ℤ × Unit {0})))
 abbrev stayed : Stays (f.ended .signature .params) (f.ended .kept)
 stayed = (stay-ref (0 ∷ []) tt (plain (λ _. T.the-row)), (stay-none (λ _. i32) yes, (stay-none (λ _. i32) yes, (stay-none (λ _. i32) yes, tt))))
 
--- a slot's bytes are counted in 64 bits, and an entry's bits are 32
+-- a slot's bytes are counted in 64 bits
 scaled : (i : ℕ) → i < 30 → Fits w64 (i * 4)
 scaled i c = record { fits = omega arith }
-
-entry : (z : ℤ) → mag z < 2 ^ 31 → Fits w32 (ofZ w32 z)
-entry z c = fits-ofZ {w = w32} {z = z} (record { sfits = c })
 
 -- the contract that the proof cites
 abbrev SlotOf : {M : Type 1} (𝓤 : URA M) (H : Heap 𝓤) (A : Atoms 𝓤) (at-mem : Memory → SProp 𝓤) (run : Routine → Fun 𝓤) → Contract 𝓤

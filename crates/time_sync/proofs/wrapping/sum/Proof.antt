@@ -46,15 +46,15 @@ loop-again c = (
       (c .before .before .before .before .loop .inv .1) (rw (toZ-ofZ {w = w32} (record { sfits = c .before .before .bits-of-arg .given })) at (c .before .bits-of .ensures)),
 )
 
-of-bits-requires : tie.Need-of-bits-requires Inv-loop μ-loop
-of-bits-requires c κs = search needs
+signed-of-requires : tie.Need-signed-of-requires Inv-loop μ-loop
+signed-of-requires c κs = search needs
 
 returns : tie.Need-returns Inv-loop μ-loop
 returns c =
-    let e = toZ-ofZ {w = w32} {z = c .of-bits .result} (record { sfits = c .of-bits .ok }) in
+    let e = toZ-ofZ {w = w32} {z = c .signed-of .result} (record { sfits = c .signed-of .ok }) in
     rw e
-    (sum-all (c .before .before .before .args .t1) (c .before .before .loop .i) (c .before .before .loop .total) (c .of-bits .result)
-    (c .before .before .loop .inv .0) (c .before .loop-test .left) (c .before .before .loop .inv .1) (c .of-bits .ensures))
+    (sum-all (c .before .before .before .args .t1) (c .before .before .loop .i) (c .before .before .loop .total) (c .signed-of .result)
+    (c .before .before .loop .inv .0) (c .before .loop-test .left) (c .before .before .loop .inv .1) (c .signed-of .ensures))
 
 pub sum-spec : {M : Type 1} → statement M
 sum-spec =
@@ -70,5 +70,5 @@ sum-spec =
     add-i
     loop-less
     loop-again
-    of-bits-requires
+    signed-of-requires
     returns)
