@@ -1,7 +1,7 @@
 //! A first night through the C face, from Rust: one seat with delay 1, two words, three frames, and the log of each.
 //!
 //!     rt staticlib desk_face
-//!     rustc examples/first_night.rs -C link-arg=target/staticlib/libdesk_face.a -o first_night && ./first_night
+//!     rustc --edition 2021 examples/first_night.rs -C link-arg=target/staticlib/libdesk_face.a -o first_night && ./first_night
 //!
 //! The archive is for x86-64. On Arm of 64 bits bench/module makes an object instead, to be linked in the same way:
 //! `bench/module desk_face target/desk_face.o`.
