@@ -11,7 +11,7 @@ extern "C" {
 pub fn play(frames: u32) -> Ended {
     let words = night::words(frames);
     let mut said = [0; 7];
-    // SAFETY: two words a frame, and room for seven numbers, as the promise asks
+    // SAFETY: a list that is too short is answered by 20
     let refused = unsafe { value_night(words.as_ptr(), words.len(), frames, said.as_mut_ptr(), said.len()) };
     assert_eq!(refused, 0);
     let [head, kind, seal, corrections, replayed, words, _] = said;

@@ -2,7 +2,6 @@
 use Prim.Native.Nat.{ℕ, zero, suc, _+_, _-_, _*_, _<_, _≤_, min}
 use native.Mathlib.Omega.{arith}
 use native.Mathlib.Numerals.{add-one}
-use native.Mathlib.Nat.{mod-lt}
 use mathlib.Core.Path.{_≡_, refl, sym, ap, ap₂, _∙_, subst}
 use mathlib.Core.Logic.{⊎-elim}
 use mathlib.Core.List.{List, []}
@@ -16,23 +15,22 @@ use Rattle.console.specs.declared.Console.{Console}
 use Rattle.console.specs.Step.{stepOf}
 use Rattle.input_queue.specs.declared.QueueState.{QueueState}
 use Rattle.input_queue.specs.declared.Asked.{Asked}
-use Rattle.input_queue.specs.Queue.{asking, asked, answer, reset, discard}
+use Rattle.input_queue.specs.Queue.{asking, asked, answer, confirms, reset, discard}
 use Rattle.input_queue.specs.Ring.{wordAt}
-use Rattle.input_queue.specs.Whole as queues
 use Rattle.sync_layer.specs.Lists.{writeRow, lowestOf}
 use Rattle.sync_layer.specs.Seats.{ringOf, seatAt, setSeat, mapSeats}
 use Rattle.sync_layer.specs.Slots.{slotOf, stateIn, saveSlot}
-use Rattle.sync_layer.specs.Whole.{SeatRoom, WordRoom, SlotRoom}
+use Rattle.sync_layer.specs.Calls.{statusOf}
+use Rattle.sync_layer.specs.Whole.{WordRoom, Places}
 use Rattle.sync_layer.proofs.Rows.{row-long, row-same}
 use Rattle.sync_layer.proofs.Seating.{seat-long, map-past}
 use Rattle.desk.specs.declared.DeskState.{DeskState}
 use Rattle.desk.specs.declared.Report.{Report}
 use Rattle.desk.specs.Lists.{leastOf, rowOf}
 use Rattle.desk.specs.Desk.{Desk, deskOf, knownOf, mismatchOf, load, resetAll, discardAll, confirm, advanceAnswer, oneFrame, replay, corrected, settle, advance}
-use Rattle.desk.specs.Settled.{shownWord}
 use Rattle.desk.specs.Calls as calls
 use Rattle.desk.specs.Whole.{Seated, Whole}
-use Rattle.desk.proofs.Loops.{row-eq, write-eq, part-row}
+use Rattle.desk.proofs.Loops.{row-eq, part-row}
 use Rattle.sync_layer.proofs.Kept.{save-long}
 use Rattle.desk.proofs.Kept.{mismatch-past, back-whole, confirm-state, frame-whole, frame-current, corrected-whole, corrected-current, settle-whole}
 
@@ -64,30 +62,37 @@ module _ (n k c : ℕ) (l₀ w m₀ : List ℕ) (from : ℕ) where
     stands : seatAt l i ≡ seatAt l₀ i
     stands = rw (v .seats) (map-past (askSeat k c w) i l₀ i (omega arith))
 
-    pub serving-seat : i < n → n ≤ 4 → SeatRoom l₀ → (i + 1) * 8 ≤ length l
-    serving-seat p h r = omega (arith, v .long)
-
-    pub serving-whole : (y : DeskState) (s : QueueState) → i < y .seats → Seated y l₀ → WordRoom w → s ≡ seatAt l i → queues.Whole w (i * 128) s
-    serving-whole y s p h r e =
-        rw (e, stands) (record { room = omega (arith, h .ready .few); numbers = h .seat i p .sane })
+    pub serving-places : (y : DeskState) → i < y .seats → Seated y l₀ → WordRoom w → Places l w i
+    serving-places y p h r =
+        record {
+          room = omega (arith, v .long, h .ready .few, h .room);
+          whole = rw stands (record { room = omega (arith, h .ready .few); numbers = h .seat i p .sane });
+        }
 
     pub serving-reach : i < n → n ≤ 4 → from + 4 ≤ length m₀ → from + i < length m
     serving-reach p h r = omega (arith, v .long-slots)
 
-    pub serving-turn : (s : QueueState) (a : Asked) (l′ : List ℕ) → i < n → s ≡ seatAt l i
-        → a ≡ asking (predicted k) (wordAt w (i * 128)) s (c + 1 - 1) → l′ ≡ setSeat l i (a .state)
-        → Serving n k c l₀ w m₀ from l′ (set m (from + i) (a .word)) (i + 1)
-    unfolding mapSeats writeRow
-    serving-turn s a l′ p e g′ h =
-        let k₁ : c + 1 - 1 ≡ c = omega arith in
-        let g : a ≡ asking (predicted k) (wordAt w (i * 128)) s c = rw k₁ at g′ in
-        record {
-          upto = omega arith;
-          seats = rw add-one (h ∙ rw (g, e, stands) (ap (λ (x : List ℕ). setSeat x i (askSeat k c w i (seatAt l₀ i))) (v .seats)));
-          slots = rw add-one (rw (g, e, stands) (ap (λ (x : List ℕ). set x (from + i) (answerAt k c l₀ w i)) (v .slots)));
-          long = rw h (seat-long l i (a .state) ∙ v .long);
-          long-slots = simp length-set (v .long-slots);
-        }
+    module _ (a : Asked) (b : a ≡ asking (predicted k) (wordAt w (ringOf i)) (seatAt l i) (c + 1 - 1)) where
+      -- a request takes the frame as a count
+      stood : a ≡ asking (predicted k) (wordAt w (ringOf i)) (seatAt l₀ i) c
+      stood = let e : c + 1 - 1 ≡ c = omega arith in rw (e, stands) at b
+
+      pub serving-word : a .word ≡ answerAt k c l₀ w i
+      serving-word = ap (λ (x : Asked). x .word) stood
+
+      pub serving-status : (u : ℕ) → u ≡ statusOf (a .confirmed) → u ≡ statusOf (confirms (seatAt l₀ i) c)
+      serving-status u e = e ∙ ap (λ (x : Asked). statusOf (x .confirmed)) stood
+
+      pub serving-turn : (l′ : List ℕ) → i < n → l′ ≡ setSeat l i (a .state) → Serving n k c l₀ w m₀ from l′ (set m (from + i) (a .word)) (i + 1)
+      unfolding mapSeats writeRow
+      serving-turn l′ p h =
+          record {
+            upto = omega arith;
+            seats = rw add-one (h ∙ rw stood (ap (λ (x : List ℕ). setSeat x i (askSeat k c w i (seatAt l₀ i))) (v .seats)));
+            slots = rw add-one (rw stood (ap (λ (x : List ℕ). set x (from + i) (answerAt k c l₀ w i)) (v .slots)));
+            long = rw h (seat-long l i (a .state) ∙ v .long);
+            long-slots = simp length-set (v .long-slots);
+          }
 
     module _ (p : n ≤ i) where
       all-seats : n ≡ i
@@ -99,54 +104,61 @@ module _ (n k c : ℕ) (l₀ w m₀ : List ℕ) (from : ℕ) where
       pub serving-slots : m ≡ writeRow n m₀ from (λ i. answer (predicted k) (wordAt w (ringOf i)) (seatAt l₀ i) c)
       serving-slots = rw all-seats (v .slots)
 
-pub ruleset servings = (serving-start, serving-seat, serving-whole, serving-reach, serving-turn, serving-seats, serving-slots)
+pub ruleset servings = (serving-start, serving-places, serving-reach, serving-word, serving-status, serving-turn, serving-seats, serving-slots)
 
 -- One frame ---------------------------------------------------------------------------------------------------------------------
 
-module _ (y : DeskState) (l w m : List ℕ) (h : Whole (deskOf y l w m)) (m₁ : List ℕ) (at : ℕ)
-    (a : m₁ ≡ saveSlot (y .limit) m (y .current) (y .console)) (b : at ≡ slotOf (y .limit) (y .current)) (u : at ≤ y .limit * 16) where
+module _ (y : DeskState) (l w m : List ℕ) (h : Whole (deskOf y l w m)) (m₁ : List ℕ) (from : ℕ)
+    (a : m₁ ≡ saveSlot (y .limit) m (y .current) (y .console)) (b : from ≡ slotOf (y .limit) (y .current) + 4) (u : from ≤ y .limit * 16 + 4) where
   saved-long : length m₁ ≡ length m
   saved-long = ap length a ∙ save-long (y .limit) m (y .current) (y .console)
 
-  pub frame-room : at + 4 + 4 ≤ length m₁
+  pub frame-room : from + 4 ≤ length m₁
   frame-room = omega (arith, saved-long, h .deep, h .seated .ready .near)
 
-  pub frame-from : at + 4 ≤ 244
+  pub frame-from : from ≤ 244
   frame-from = omega (arith, h .seated .ready .near)
 
   module _ (l₂ m₂ : List ℕ) (d : l₂ ≡ mapSeats (y .seats) (λ i q. asked (predicted (y .predictor)) (wordAt w (ringOf i)) q (y .current)) l)
-      (e : m₂ ≡ writeRow (y .seats) m₁ (at + 4) (λ i. answer (predicted (y .predictor)) (wordAt w (ringOf i)) (seatAt l i) (y .current))) where
+      (e : m₂ ≡ writeRow (y .seats) m₁ from (λ i. answer (predicted (y .predictor)) (wordAt w (ringOf i)) (seatAt l i) (y .current))) where
     written-long : length m₂ ≡ length m
-    written-long = ap length e ∙ row-long (y .seats) m₁ (at + 4) (answerSeat y l w) ∙ saved-long
+    written-long = ap length e ∙ row-long (y .seats) m₁ from (answerSeat y l w) ∙ saved-long
 
-    pub frame-end : at + 4 + y .seats ≤ length m₂
+    pub frame-end : from + y .seats ≤ length m₂
     frame-end = omega (arith, written-long, h .deep, h .seated .ready .near, h .seated .ready .few)
 
-    served-part : lists.take (at + 4 + y .seats - (at + 4)) (lists.drop (at + 4) m₂) ≡ rowOf (y .seats) (answerSeat y l w)
+    served-part : lists.take (from + y .seats - from) (lists.drop from m₂) ≡ rowOf (y .seats) (answerSeat y l w)
     served-part =
-        let k : at + 4 + y .seats - (at + 4) ≡ y .seats = omega arith in
+        let k : from + y .seats - from ≡ y .seats = omega arith in
         rw k
-        (part-row (y .seats) m₂ (at + 4) frame-end
-        ∙ row-eq (y .seats) (λ i. getD m₂ (at + 4 + i) 0) (answerSeat y l w) (λ i p.
-        ap (λ (x : List ℕ). getD x (at + 4 + i) 0) e
-        ∙ row-same (y .seats) m₁ (at + 4) (answerSeat y l w) i 0 (omega (arith, frame-room, h .seated .ready .few)) p))
+        (part-row (y .seats) m₂ from frame-end
+        ∙ row-eq (y .seats) (λ i. getD m₂ (from + i) 0) (answerSeat y l w) (λ i p.
+        ap (λ (x : List ℕ). getD x (from + i) 0) e
+        ∙ row-same (y .seats) m₁ from (answerSeat y l w) i 0 (omega (arith, frame-room, h .seated .ready .few)) p))
 
-    pub frame-desk : (k : Console) → k ≡ stepOf (y .console) (lists.take (at + 4 + y .seats - (at + 4)) (lists.drop (at + 4) m₂))
-        → deskOf (record { seats = y .seats; limit = y .limit; predictor = y .predictor; current = y .current + 1; console = k }) l₂ w m₂
-        ≡ calls.frameOn (deskOf y l w m)
+    pub frame-desk : (r : DeskState)
+        → r ≡ record { seats = y .seats; limit = y .limit; predictor = y .predictor; current = y .current + 1; console = stepOf (y .console) (lists.take (from + y .seats - from) (lists.drop from m₂)) }
+        → deskOf r l₂ w m₂ ≡ calls.frameOn (deskOf y l w m)
     unfolding oneFrame
-    frame-desk k g =
-        let j : k ≡ stepOf (y .console) (rowOf (y .seats) (answerSeat y l w)) = g ∙ ap (stepOf (y .console)) served-part in
+    frame-desk r g =
         let i : m₂ ≡ writeRow (y .seats) (saveSlot (y .limit) m (y .current) (y .console)) (slotOf (y .limit) (y .current) + 4) (answerSeat y l w)
-        = e ∙ ap₂ (λ (x : List ℕ) (n : ℕ). writeRow (y .seats) x (n + 4) (answerSeat y l w)) a b in
-        λ z. record {
-          state = record { seats = y .seats; limit = y .limit; predictor = y .predictor; current = y .current + 1; console = j z };
+        = e ∙ ap₂ (λ (x : List ℕ) (n : ℕ). writeRow (y .seats) x n (answerSeat y l w)) a b in
+        ap (λ (x : DeskState). deskOf x l₂ w m₂) g
+        ∙ (λ z. record {
+          state = record { seats = y .seats; limit = y .limit; predictor = y .predictor; current = y .current + 1; console = stepOf (y .console) (served-part z) };
           seats = d z;
           words = w;
           slots = i z;
-        }
+        })
 
-pub ruleset frames = (frame-room, frame-from, frame-end, frame-desk)
+-- a frame's end, with the console that was worked out
+abbrev nextState : DeskState → Console → DeskState
+nextState y k = record { seats = y .seats; limit = y .limit; predictor = y .predictor; current = y .current + 1; console = k }
+
+pub frame-next : (y : DeskState) (k c : Console) → k ≡ c → nextState y k ≡ nextState y c
+frame-next y k c e = ap (nextState y) e
+
+pub ruleset frames = (frame-room, frame-from, frame-end, frame-desk, frame-next)
 
 -- Replay: one frame and then the rest -------------------------------------------------------------------------------------------
 
@@ -348,49 +360,6 @@ pub settle-report : (y : DeskState) (l w m : List ℕ) (n : ℕ) (r : Report) �
 settle-report y l w m n r e a = rw e at a
 
 pub ruleset settles = (settle-low, settle-seated, settle-desk, settle-report)
-
--- One frame, with the words served and their statuses ---------------------------------------------------------------------------
-
--- a slot lies within the lent slots
-slot-within : (limit f : ℕ) → slotOf limit f ≤ limit * 16
-slot-within limit f = let h = mod-lt f {m = limit + 1} (omega arith) in omega arith
-
-module _ (s : DeskState) (l₁ w m₁ : List ℕ) (h : Whole (deskOf s l₁ w m₁)) where
-  pub serve-statuses : (o o′ : List ℕ) → o′ ≡ writeRow (s .seats) o 0 (calls.statusOf (deskOf s l₁ [] [])) → o′ ≡ writeRow (s .seats) o 0 (calls.statusOf (deskOf s l₁ w m₁))
-  serve-statuses o o′ a = a
-
-  module _ (t : DeskState) (l₂ m₂ : List ℕ)
-      (f : deskOf t l₂ w m₂ ≡ replay stepOf (predicted (s .predictor)) (s .current + 1 - s .current) (deskOf s l₁ w m₁)) where
-    pub serve-desk : deskOf t l₂ w m₂ ≡ calls.frameOn (deskOf s l₁ w m₁)
-    serve-desk = f ∙ replay-once (s .current + 1 - s .current) (predicted (s .predictor)) (deskOf s l₁ w m₁) (omega arith)
-
-    served-slots : m₂ ≡ writeRow (s .seats) (saveSlot (s .limit) m₁ (s .current) (s .console)) (slotOf (s .limit) (s .current) + 4) (answerSeat s l₁ w)
-    unfolding oneFrame
-    served-slots = ap (λ (d : Desk). d .slots) serve-desk
-
-    served-long : length m₂ ≡ length m₁
-    served-long =
-        ap length served-slots
-        ∙ row-long (s .seats) (saveSlot (s .limit) m₁ (s .current) (s .console)) (slotOf (s .limit) (s .current) + 4) (answerSeat s l₁ w)
-        ∙ save-long (s .limit) m₁ (s .current) (s .console)
-
-    pub serve-deep : SlotRoom m₂
-    serve-deep = omega (arith, served-long, h .deep)
-
-    served-word : (i : ℕ) → i < s .seats → shownWord (deskOf s [] [] m₂) (s .current) i ≡ calls.servedWord (deskOf s l₁ w m₁) i
-    served-word i x =
-        let r = h .seated .ready in
-        let b = slot-within (s .limit) (s .current) in
-        let k : slotOf (s .limit) (s .current) + (4 + i) ≡ slotOf (s .limit) (s .current) + 4 + i = omega arith in
-        ap (λ (j : ℕ). getD m₂ j 0) k
-        ∙ ap (λ (o : List ℕ). getD o (slotOf (s .limit) (s .current) + 4 + i) 0) served-slots
-        ∙ row-same (s .seats) (saveSlot (s .limit) m₁ (s .current) (s .console)) (slotOf (s .limit) (s .current) + 4) (answerSeat s l₁ w) i 0
-        (omega (arith, save-long (s .limit) m₁ (s .current) (s .console), h .deep, r .few, r .near)) x
-
-    pub serve-words : (o o′ : List ℕ) → o′ ≡ writeRow (s .seats) o 0 (shownWord (deskOf s [] [] m₂) (s .current)) → o′ ≡ writeRow (s .seats) o 0 (calls.servedWord (deskOf s l₁ w m₁))
-    serve-words o o′ a = a ∙ write-eq (s .seats) o 0 (shownWord (deskOf s [] [] m₂) (s .current)) (calls.servedWord (deskOf s l₁ w m₁)) served-word
-
-pub ruleset serves = (serve-statuses, serve-desk, serve-deep, serve-words)
 
 -- Advance -----------------------------------------------------------------------------------------------------------------------
 

@@ -1,23 +1,19 @@
 // Frames served and replayed, and what is let go of after them.
 use crate::DeskState;
 use crate::showing::known_count;
-use crate::showing::put_words;
-use frame_info::input_status;
-use frame_info::input_status::InputStatus;
 use frame_info::lesser;
-use input_queue::INPUT_QUEUE_LENGTH;
 use sync_layer::SERVED_FROM;
+use sync_layer::ask_seat;
 use sync_layer::discard_seats;
 use sync_layer::reset_seats;
 use sync_layer::save_slot;
-use sync_layer::seat_at;
-use sync_layer::set_seat;
 use sync_layer::slot_of;
 use sync_layer::state_in;
+use sync_layer::status_of;
 ghost use mathlib.Core.Path.{_≡_};
 ghost use mathlib.Core.List.{[]};
 ghost use Prim.Native.Nat.{_+_, _-_, _*_, _≤_, _<_};
-ghost use lib.ListN.{length};
+ghost use lib.ListN.{length, take, drop};
 ghost use Rattle.frame_info.specs.Frame.{lastCount};
 ghost use Rattle.frame_info.specs.Word.{predicted};
 ghost use Rattle.console.specs.Step.{stepOf};
@@ -25,7 +21,7 @@ ghost use Rattle.input_queue.specs.Queue.{asked, answer, confirms};
 ghost use Rattle.input_queue.specs.Ring.{wordAt};
 ghost use Rattle.sync_layer.specs.Lists.{writeRow};
 ghost use Rattle.sync_layer.specs.Seats.{maxSeats, seatWords, ringOf, seatAt, mapSeats};
-ghost use Rattle.sync_layer.specs.Slots.{maxLimit, slotWords, servedFrom};
+ghost use Rattle.sync_layer.specs.Slots.{maxLimit, slotWords, servedFrom, slotOf, saveSlot};
 ghost use Rattle.sync_layer.specs.Calls.{statusOf};
 ghost use Rattle.sync_layer.specs.Whole.{WordRoom, SlotRoom};
 ghost use Rattle.desk.specs.Desk as m;
@@ -45,12 +41,44 @@ fn serve_seats(seats: &mut [u32], words: &[u32], slots: &mut [u32], desk: DeskSt
     let predictor = desk.predictor;
     let mut i: usize = 0;
     while i < n {
-        let s = seat_at(&seats[..], i);
-        let asked = input_queue::ask(words, i * INPUT_QUEUE_LENGTH, s, predictor, current + 1);
-        let state = asked.state;
-        set_seat(seats, i, state);
+        let asked = ask_seat(seats, words, predictor, current + 1, i);
         slots[from + i] = asked.word;
         i += 1;
+    }
+}
+
+// The beginning of a frame: the console is saved in the frame's slot. Answers where the slot's words
+// begin.
+fn begin_frame(slots: &mut [u32], desk: DeskState) -> usize
+    requires { ⌜ Ready desk × SlotRoom (now slots) ⌝ }
+    ensures { λ r. ⌜ (r ≡ slotOf (desk .limit) (desk .current) + servedFrom) × (r ≤ desk .limit * slotWords + servedFrom)
+        × (now (slots .exit) ≡ saveSlot (desk .limit) (now (slots .entry)) (desk .current) (desk .console)) ⌝ }
+{
+    let limit = desk.limit;
+    let current = desk.current;
+    save_slot(slots, limit, current, desk.console);
+    slot_of(limit, current) + SERVED_FROM
+}
+
+// The end of a frame: the console steps by the words in the frame's slot, and current is one more.
+fn next_frame(slots: &[u32], desk: DeskState, from: usize) -> DeskState
+    requires { ⌜ Ready desk × (from + maxSeats ≤ length (now slots)) ⌝ }
+    ensures { λ r. ⌜ r ≡ record {
+      seats = desk .seats;
+      limit = desk .limit;
+      predictor = desk .predictor;
+      current = desk .current + 1;
+      console = stepOf (desk .console) (take (from + desk .seats - from) (drop from (now (slots .entry))));
+    } ⌝ }
+{
+    let state = desk.console;
+    let end = from + desk.seats as usize;
+    DeskState {
+        seats: desk.seats,
+        limit: desk.limit,
+        predictor: desk.predictor,
+        current: desk.current + 1,
+        console: state.step(&slots[from..end]),
     }
 }
 
@@ -59,25 +87,13 @@ fn one_frame(seats: &mut [u32], words: &[u32], slots: &mut [u32], desk: DeskStat
     requires { ⌜ Whole (m.deskOf desk (now seats) (now words) (now slots)) ⌝ }
     ensures { λ r. ⌜ m.deskOf r (now (seats .exit)) (now (words .entry)) (now (slots .exit)) ≡ calls.frameOn (m.deskOf desk (now (seats .entry)) (now (words .entry)) (now (slots .entry))) ⌝ }
 {
-    let limit = desk.limit;
-    let current = desk.current;
-    let state = desk.console;
-    save_slot(slots, limit, current, state);
-    let from = slot_of(limit, current) + SERVED_FROM;
+    let from = begin_frame(slots, desk);
     serve_seats(seats, words, slots, desk, from);
-    let end = from + desk.seats as usize;
-    let console = state.step(&slots[from..end]);
-    DeskState {
-        seats: desk.seats,
-        limit,
-        predictor: desk.predictor,
-        current: current + 1,
-        console,
-    }
+    next_frame(&slots[..], desk, from)
 }
 
-// At least one frame, to the end: one frame and then the rest. Every frame is played from here, so
-// that the frame's code has one caller and is compiled into it.
+// At least one frame, to the end: one frame and then the rest. Every replayed frame is played from
+// here, so that the frame's code has one caller and is compiled into it.
 fn play(seats: &mut [u32], words: &[u32], slots: &mut [u32], desk: DeskState, end: u32) -> DeskState
     requires { ⌜ Whole (m.deskOf desk (now seats) (now words) (now slots)) × (desk .current < end) × (end ≤ lastCount) ⌝ }
     ensures { λ r. ⌜ m.deskOf r (now (seats .exit)) (now (words .entry)) (now (slots .exit))
@@ -169,30 +185,37 @@ pub fn confirm(seats: &mut [u32], desk: DeskState)
     discard_seats(seats, desk.seats as usize, frame - 1);
 }
 
-// How a request of the frame will stand.
-fn status_at(seats: &[u32], seat: usize, current: u32) -> InputStatus
-    requires { ⌜ (seat + 1) * seatWords ≤ length (now seats) ⌝ }
-    ensures { λ r. ⌜ r ≡ statusOf (confirms (seatAt (now (seats .entry)) seat) current) ⌝ }
-{
-    let s = seat_at(seats, seat);
-    if s.prediction_count != 0 {
-        return input_status::PREDICTED;
-    }
-    if current < s.last_added_count {
-        return input_status::CONFIRMED;
-    }
-    input_status::PREDICTED
-}
-
-fn put_statuses(seats: &[u32], desk: DeskState, statuses: &mut [u32])
-    requires { ⌜ Seated desk (now seats) × (desk .seats ≤ length (now statuses)) ⌝ }
-    ensures { λ _. ⌜ now (statuses .exit) ≡ writeRow (desk .seats) (now (statuses .entry)) 0 (calls.statusOf (m.deskOf desk (now (seats .entry)) [] [])) ⌝ }
+// Asks every seat for the current frame, as `serve_seats` does, and lends back each word and how it
+// stands. While a seat is asked is the one time that its word and standing are at hand.
+fn serve_row(
+    seats: &mut [u32],
+    words: &[u32],
+    slots: &mut [u32],
+    desk: DeskState,
+    from: usize,
+    served: &mut [u32],
+    statuses: &mut [u32],
+)
+    requires { ⌜ Seated desk (now seats) × WordRoom (now words) × (from + maxSeats ≤ length (now slots)) × (from ≤ maxLimit * slotWords + servedFrom)
+        × (desk .seats ≤ length (now served)) × (desk .seats ≤ length (now statuses)) ⌝ }
+    ensures { λ _. ⌜ (now (seats .exit) ≡ mapSeats (desk .seats) (λ i q. asked (predicted (desk .predictor)) (wordAt (now (words .entry)) (ringOf i)) q (desk .current)) (now (seats .entry)))
+        × (now (slots .exit)
+        ≡ writeRow (desk .seats) (now (slots .entry)) from
+        (λ i. answer (predicted (desk .predictor)) (wordAt (now (words .entry)) (ringOf i)) (seatAt (now (seats .entry)) i) (desk .current)))
+        × (now (served .exit)
+        ≡ writeRow (desk .seats) (now (served .entry)) 0
+        (λ i. answer (predicted (desk .predictor)) (wordAt (now (words .entry)) (ringOf i)) (seatAt (now (seats .entry)) i) (desk .current)))
+        × (now (statuses .exit) ≡ writeRow (desk .seats) (now (statuses .entry)) 0 (λ i. statusOf (confirms (seatAt (now (seats .entry)) i) (desk .current)))) ⌝ }
 {
     let n = desk.seats as usize;
     let current = desk.current;
+    let predictor = desk.predictor;
     let mut i: usize = 0;
     while i < n {
-        statuses[i] = status_at(seats, i, current);
+        let asked = ask_seat(seats, words, predictor, current + 1, i);
+        slots[from + i] = asked.word;
+        served[i] = asked.word;
+        statuses[i] = status_of(asked.confirmed);
         i += 1;
     }
 }
@@ -211,8 +234,7 @@ pub fn serve_frame(
         × (now (served .exit) ≡ writeRow (desk .seats) (now (served .entry)) 0 (calls.servedWord (m.deskOf desk (now (seats .entry)) (now (words .entry)) (now (slots .entry)))))
         × (now (statuses .exit) ≡ writeRow (desk .seats) (now (statuses .entry)) 0 (calls.statusOf (m.deskOf desk (now (seats .entry)) (now (words .entry)) (now (slots .entry))))) ⌝ }
 {
-    put_statuses(&seats[..], desk, statuses);
-    let next = play(seats, words, slots, desk, desk.current + 1);
-    put_words(&slots[..], desk, desk.current, served);
-    next
+    let from = begin_frame(slots, desk);
+    serve_row(seats, words, slots, desk, from, served, statuses);
+    next_frame(&slots[..], desk, from)
 }

@@ -94,7 +94,7 @@ fn show_refusal(seats: &[u32], desk: DeskState, count: u32) -> u32
 }
 
 // The words of a frame's slot.
-pub fn put_words(slots: &[u32], desk: DeskState, frame: u32, out: &mut [u32])
+fn put_words(slots: &[u32], desk: DeskState, frame: u32, out: &mut [u32])
     requires { ⌜ Ready desk × SlotRoom (now slots) × (desk .seats ≤ length (now out)) ⌝ }
     ensures { λ _. ⌜ now (out .exit) ≡ writeRow (desk .seats) (now (out .entry)) 0 (settled.shownWord (m.deskOf desk [] [] (now (slots .entry))) frame) ⌝ }
 {

@@ -5,10 +5,15 @@
 // the desk does not allow, and the bench compares how the night ends with the lent desk and ggrs.
 use console::Console;
 use desk_value::Desk;
+use frame_info::LAST_COUNT;
+use frame_info::refusal::FRAME_TOO_HIGH;
+use frame_info::refusal::NO_ROOM_FOR_BYTES;
 ghost use mathlib.Core.Path.{_≡_};
-ghost use Prim.Native.Nat.{_*_, _≤_, _<_};
+ghost use Prim.Native.Nat.{_+_, _*_, _≤_, _<_};
 ghost use lib.ListN.{length};
+ghost use Rattle.frame_info.specs.Frame.{lastCount};
 ghost use Rattle.desk_value.specs.Value as held;
+ghost use Rattle.desk_value_face.specs.Said.{saidWords};
 
 // The night's limit, and how many frames late seat 1 is.
 const LIMIT: u32 = 8;
@@ -24,6 +29,8 @@ const REPLAYED: usize = 4;
 const SERVED: usize = 5;
 
 const REFUSED: usize = 6;
+
+const SAID_WORDS: usize = 7;
 
 fn add(said: &mut [u32], at: usize, n: u32)
     requires { ⌜ at < length (now said) ⌝ }
@@ -43,7 +50,7 @@ fn mark(said: &mut [u32], at: usize, n: u32)
 }
 
 fn draw(said: &mut [u32], word: u32)
-    requires { ⌜ 7 ≤ length (now said) ⌝ }
+    requires { ⌜ saidWords ≤ length (now said) ⌝ }
     ensures { λ _. ⌜ length (now (said .exit)) ≡ length (now (said .entry)) ⌝ }
 {
     let drawn = said[SERVED];
@@ -51,7 +58,7 @@ fn draw(said: &mut [u32], word: u32)
 }
 
 fn count(said: &mut [u32], again: u32, first: u32, second: u32)
-    requires { ⌜ 7 ≤ length (now said) ⌝ }
+    requires { ⌜ saidWords ≤ length (now said) ⌝ }
     ensures { λ _. ⌜ length (now (said .exit)) ≡ length (now (said .entry)) ⌝ }
 {
     mark(said, CORRECTIONS, again);
@@ -62,7 +69,7 @@ fn count(said: &mut [u32], again: u32, first: u32, second: u32)
 
 // Seat 0's word for the frame, and seat 1's for the one that it is late by.
 fn take_words(desk: Desk, frame: u32, first: u32, second: u32, said: &mut [u32]) -> Desk
-    requires { ⌜ held.Whole desk × (frame < 1000000000) × (7 ≤ length (now said)) ⌝ }
+    requires { ⌜ held.Whole desk × (frame + 1 < lastCount) × (saidWords ≤ length (now said)) ⌝ }
     ensures { λ r. ⌜ held.Whole r × (length (now (said .exit)) ≡ length (now (said .entry))) ⌝ }
 {
     let a = desk.take(0, frame as i32, first);
@@ -77,7 +84,7 @@ fn take_words(desk: Desk, frame: u32, first: u32, second: u32, said: &mut [u32])
 }
 
 fn serve(desk: Desk, said: &mut [u32]) -> Desk
-    requires { ⌜ held.Whole desk × (7 ≤ length (now said)) ⌝ }
+    requires { ⌜ held.Whole desk × (saidWords ≤ length (now said)) ⌝ }
     ensures { λ r. ⌜ held.Whole r × (length (now (said .exit)) ≡ length (now (said .entry))) ⌝ }
 {
     let a = desk.advance();
@@ -90,7 +97,7 @@ fn serve(desk: Desk, said: &mut [u32]) -> Desk
 
 // One frame of the night.
 fn turn(desk: Desk, frame: u32, first: u32, second: u32, said: &mut [u32]) -> Desk
-    requires { ⌜ held.Whole desk × (frame < 1000000000) × (7 ≤ length (now said)) ⌝ }
+    requires { ⌜ held.Whole desk × (frame + 1 < lastCount) × (saidWords ≤ length (now said)) ⌝ }
     ensures { λ r. ⌜ held.Whole r × (length (now (said .exit)) ≡ length (now (said .entry))) ⌝ }
 {
     let taken = take_words(desk, frame, first, second, said);
@@ -98,7 +105,7 @@ fn turn(desk: Desk, frame: u32, first: u32, second: u32, said: &mut [u32]) -> De
 }
 
 fn set_console(said: &mut [u32], console: Console)
-    requires { ⌜ 7 ≤ length (now said) ⌝ }
+    requires { ⌜ saidWords ≤ length (now said) ⌝ }
     ensures { λ _. ⌜ length (now (said .exit)) ≡ length (now (said .entry)) ⌝ }
 {
     said[0] = console.head;
@@ -106,10 +113,9 @@ fn set_console(said: &mut [u32], console: Console)
     said[2] = console.seal;
 }
 
-// Two words a frame. Answers how many calls were refused, which is 0 where all went well.
-#[no_mangle]
-pub extern "C" fn value_night(words: &[u32], frames: u32, said: &mut [u32]) -> u32
-    requires { ⌜ (frames ≤ 1000000000) × (2 * frames ≤ length (now words)) × (7 ≤ length (now said)) ⌝ }
+// A night whose lists are long enough.
+fn night(words: &[u32], frames: u32, said: &mut [u32]) -> u32
+    requires { ⌜ (frames < lastCount) × (2 * frames ≤ length (now words)) × (saidWords ≤ length (now said)) ⌝ }
     ensures { λ _. ⌜ length (now (said .exit)) ≡ length (now (said .entry)) ⌝ }
 {
     let delays = [0u32; 2];
@@ -126,4 +132,22 @@ pub extern "C" fn value_night(words: &[u32], frames: u32, said: &mut [u32]) -> u
     let console = state.console;
     set_console(said, console);
     said[REFUSED]
+}
+
+// Two words a frame. Answers 6 where there are more frames than a reel has, 20 where a list is too
+// short, and else how many calls were refused, which is 0 where all went well.
+#[no_mangle]
+pub extern "C" fn value_night(words: &[u32], frames: u32, said: &mut [u32]) -> u32
+    ensures { λ _. ⌜ length (now (said .exit)) ≡ length (now (said .entry)) ⌝ }
+{
+    if frames >= LAST_COUNT {
+        return FRAME_TOO_HIGH;
+    }
+    if words.len() / 2 < frames as usize {
+        return NO_ROOM_FOR_BYTES;
+    }
+    if said.len() < SAID_WORDS {
+        return NO_ROOM_FOR_BYTES;
+    }
+    night(words, frames, said)
 }

@@ -26,7 +26,7 @@ use Rattle.sync_layer.specs.declared.LayerState.{LayerState}
 use Rattle.sync_layer.specs.Lists.{writeRow, firstRefusal}
 use Rattle.sync_layer.specs.Seats.{ringOf, seatAt, setSeat, mapSeats}
 use Rattle.sync_layer.specs.Calls as calls
-use Rattle.sync_layer.specs.Whole.{Ready, Seated, WordRoom, Serves}
+use Rattle.sync_layer.specs.Whole.{Ready, Seated, WordRoom, Places, Serves}
 use Rattle.sync_layer.proofs.Rows.{row-long}
 use Rattle.sync_layer.proofs.Seating.{seat-long, seat-kept, seat-other, map-past, map-long}
 
@@ -124,7 +124,11 @@ module _ (y : LayerState) (l words : List ℕ) (gone : List Bool) (last : List �
     pub status-gone : (m : List ℕ) → set m i statusDisconnected ≡ set m i (calls.status y l words gone last i)
     status-gone m = rw (← e, a)
 
-  module _ (a : t ≡ false) (r : Asked) (d : r ≡ asking (predicted (y .predictor)) (wordAt words (ringOf i)) (seatAt l i) (y .«current_frame»)) where
+  -- a request takes the frame as a count
+  module _ (a : t ≡ false) (r : Asked) (b : r ≡ asking (predicted (y .predictor)) (wordAt words (ringOf i)) (seatAt l i) (y .«current_frame» + 1 - 1)) where
+    d : r ≡ asking (predicted (y .predictor)) (wordAt words (ringOf i)) (seatAt l i) (y .«current_frame»)
+    d = let k : y .«current_frame» + 1 - 1 ≡ y .«current_frame» = omega arith in rw k at b
+
     pub seat-here : (l′ : List ℕ) → l′ ≡ setSeat l i (r .state) → l′ ≡ setSeat l i (calls.askedSeat y l words gone last i (seatAt l i))
     seat-here l′ h = rw (← e, a) (h ∙ rw d)
 
@@ -134,16 +138,15 @@ module _ (y : LayerState) (l words : List ℕ) (gone : List Bool) (last : List �
     pub status-here : (m : List ℕ) (n : ℕ) → n ≡ calls.statusOf (r .confirmed) → set m i n ≡ set m i (calls.status y l words gone last i)
     status-here m n h = rw (← e, a) (rw (h, d))
 
--- a request takes the frame as a count
-pub asked-here : (y : LayerState) (l words : List ℕ) (i : ℕ) (s : QueueState) (r : Asked) → s ≡ seatAt l i
-    → r ≡ asking (predicted (y .predictor)) (wordAt words (ringOf i)) s (y .«current_frame» + 1 - 1)
-    → r ≡ asking (predicted (y .predictor)) (wordAt words (ringOf i)) (seatAt l i) (y .«current_frame»)
-asked-here y l words i s r e d =
-    let k : y .«current_frame» + 1 - 1 ≡ y .«current_frame» = omega arith in
-    rw (← e) (rw k at d)
+pub asked-here : (l words : List ℕ) (k n i : ℕ) (s : QueueState) (r : Asked) → s ≡ seatAt l i
+    → r ≡ asking (predicted k) (wordAt words (ringOf i)) s n → r ≡ asking (predicted k) (wordAt words (ringOf i)) (seatAt l i) n
+asked-here l words k n i s r e d = rw (← e) d
 
-pub serves-whole : (y : LayerState) (l words : List ℕ) (i : ℕ) (s : QueueState) → Serves y l words i → s ≡ seatAt l i → queues.Whole words (ringOf i) s
-serves-whole y l words i s h e = rw e (h .whole)
+pub places-whole : (l words : List ℕ) (i : ℕ) (s : QueueState) → Places l words i → s ≡ seatAt l i → queues.Whole words (ringOf i) s
+places-whole l words i s h e = rw e (h .whole)
+
+pub serves-places : (y : LayerState) (l words : List ℕ) (i : ℕ) → Serves y l words i → Places l words i
+serves-places y l words i h = record { room = h .room; whole = h .whole }
 
 -- Every seat so far
 module _ (y : LayerState) (l₀ words : List ℕ) (gone : List Bool) (last : List ℤ) (m₀ k₀ : List ℕ) where
@@ -202,7 +205,7 @@ module _ (y : LayerState) (l₀ words : List ℕ) (gone : List Bool) (last : Lis
       pub serving-statuses : k ≡ writeRow (y .«num_players») k₀ 0 (calls.status y l₀ words gone last)
       serving-statuses = rw all-seats (v .statuses)
 
-pub ruleset servings = (seat-gone, word-gone, status-gone, seat-here, word-here, status-here, asked-here, serves-whole, serving-start, serving-serves, serving-turn, serving-seats, serving-inputs, serving-statuses)
+pub ruleset servings = (seat-gone, word-gone, status-gone, seat-here, word-here, status-here, asked-here, places-whole, serves-places, serving-start, serving-serves, serving-turn, serving-seats, serving-inputs, serving-statuses)
 
 -- The whole request
 module _ (y : LayerState) (l words : List ℕ) (gone : List Bool) (last : List ℤ) (n : ℕ) (e : n ≡ calls.requestRefusal y l gone last) where

@@ -25,7 +25,7 @@ ghost use Rattle.input_queue.specs.Ring.{queueLength, wordAt};
 ghost use Rattle.sync_layer.specs.Calls as calls;
 ghost use Rattle.sync_layer.specs.Lists.{firstRefusal, writeRow};
 ghost use Rattle.sync_layer.specs.Seats.{maxSeats, ringOf, seatAt, setSeat, mapSeats};
-ghost use Rattle.sync_layer.specs.Whole.{WordRoom, Seated, Serves};
+ghost use Rattle.sync_layer.specs.Whole.{WordRoom, Seated, Places, Serves};
 
 // Whether a seat is gone, with its last frame below a frame.
 fn gone_below(disconnected: &[bool], last_frame: &[i32], seat: usize, frame: u32) -> bool
@@ -102,26 +102,21 @@ pub fn request_refusal(
     first_ask_refusal(seats, layer, disconnected, last_frame)
 }
 
-fn status_of(confirmed: bool) -> InputStatus
+// How an asked word stands.
+pub fn status_of(confirmed: bool) -> InputStatus
     ensures { λ r. ⌜ r ≡ calls.statusOf confirmed ⌝ }
 {
     if confirmed { CONFIRMED } else { PREDICTED }
 }
 
-// One seat's queue asked for the current frame, and put back.
-fn ask_seat(seats: &mut [u32], words: &[u32], layer: LayerState, seat: usize) -> Asked
-    requires { ⌜ Serves layer (now seats) (now words) seat ⌝ }
-    ensures { λ r. ⌜ (r ≡ asking (predicted (layer .predictor)) (wordAt (now (words .entry)) (ringOf seat)) (seatAt (now (seats .entry)) seat) (layer .«current_frame»))
+// One seat's queue asked for a frame, given as a count, and put back.
+pub fn ask_seat(seats: &mut [u32], words: &[u32], predictor: u32, count: u32, seat: usize) -> Asked
+    requires { ⌜ Places (now seats) (now words) seat ⌝ }
+    ensures { λ r. ⌜ (r ≡ asking (predicted predictor) (wordAt (now (words .entry)) (ringOf seat)) (seatAt (now (seats .entry)) seat) (count - 1))
         × (now (seats .exit) ≡ setSeat (now (seats .entry)) seat (r .state)) ⌝ }
 {
     let s = seat_at(&seats[..], seat);
-    let asked = input_queue::ask(
-        words,
-        seat * INPUT_QUEUE_LENGTH,
-        s,
-        layer.predictor,
-        layer.current_frame + 1,
-    );
+    let asked = input_queue::ask(words, seat * INPUT_QUEUE_LENGTH, s, predictor, count);
     let state = asked.state;
     set_seat(seats, seat, state);
     asked
@@ -152,7 +147,7 @@ fn serve_seat(
         statuses[seat] = DISCONNECTED;
         return;
     }
-    let asked = ask_seat(seats, words, layer, seat);
+    let asked = ask_seat(seats, words, layer.predictor, layer.current_frame + 1, seat);
     inputs[seat] = asked.word;
     statuses[seat] = status_of(asked.confirmed);
 }

@@ -8,9 +8,7 @@ use Rattle.desk.proofs.frames.serve_seats.Statement.{statement}
 use Rattle.desk.proofs.frames.serve_seats.Tie as tie
 use Rattle.desk.proofs.frames.serve_seats.Reads as reads
 use Rattle.desk.proofs.frames.serve_seats.Lts as lts
-use Rattle.input_queue.proofs.ask.Reads as ask-reads
-use Rattle.sync_layer.proofs.seat_at.Reads as seat-at-reads
-use Rattle.sync_layer.proofs.set_seat.Reads as set-seat-reads
+use Rattle.sync_layer.proofs.ask_seat.Reads as ask-seat-reads
 
 abbrev Inv-loop : tie.InvT-loop
 Inv-loop seats₀ words slots₀ from n current predictor i₀ seats slots i = Serving n predictor current seats₀ words slots₀ from seats slots i
@@ -26,37 +24,25 @@ cast-n c = search (needs, servings)
 loop-holds : tie.Need-loop-holds Inv-loop μ-loop
 loop-holds c = search (needs, servings)
 
--- src/frames.rt:40:13
-seat-at-requires : tie.Need-seat-at-requires Inv-loop μ-loop
-seat-at-requires c κs = search (needs, servings)
-
--- src/frames.rt:41:45
-mul-ask : tie.Need-mul-ask Inv-loop μ-loop
-mul-ask c = search (needs, servings)
-
--- src/frames.rt:41:64
-add-ask : tie.Need-add-ask Inv-loop μ-loop
-add-ask c = search needs
+-- src/frames.rt:41:55
+add-ask-seat : tie.Need-add-ask-seat Inv-loop μ-loop
+add-ask-seat c = search needs
 
 -- src/frames.rt:41:13
-ask-requires : tie.Need-ask-requires Inv-loop μ-loop
-ask-requires c κs = search (needs, servings)
-
--- src/frames.rt:43:9
-set-seat-requires : tie.Need-set-seat-requires Inv-loop μ-loop
-set-seat-requires c κs = search (needs, servings)
+ask-seat-requires : tie.Need-ask-seat-requires Inv-loop μ-loop
+ask-seat-requires c κs = search (needs, servings)
 
 -- src/frames.rt:44:15
 add-slots : tie.Need-add-slots Inv-loop μ-loop
-add-slots c = omega (arith, c .before .before .before .before .before .before .before .before .before .before .before .before .before .before .pre .3, c .before .before .before .before .before .before .before .before .before .before .before .before .before .before .pre .0 .ready .few)
+add-slots c = search (needs, servings)
 
 -- src/frames.rt:44:9
 mul-slots : tie.Need-mul-slots Inv-loop μ-loop
-mul-slots c = omega (arith, c .before .before .before .before .before .before .before .before .before .before .before .before .before .before .pre .3, c .before .before .before .before .before .before .before .before .before .before .before .before .before .before .pre .0 .ready .few)
+mul-slots c = search (needs, servings)
 
 -- src/frames.rt:44:9
 slice-write-slots : tie.Need-slice-write-slots Inv-loop μ-loop
-slice-write-slots c = omega (arith, c .before .before .before .before .before .before .before .before .before .loop .inv .long-slots, c .before .before .before .before .before .before .before .before .before .before .before .before .before .before .pre .2, c .before .before .before .before .before .before .before .before .before .before .before .before .before .before .pre .0 .ready .few)
+slice-write-slots c = search (needs, servings)
 
 -- src/frames.rt:45:9
 add-i : tie.Need-add-i Inv-loop μ-loop
@@ -91,11 +77,8 @@ serve-seats-spec =
     μ-loop
     cast-n
     loop-holds
-    seat-at-requires
-    mul-ask
-    add-ask
-    ask-requires
-    set-seat-requires
+    add-ask-seat
+    ask-seat-requires
     add-slots
     mul-slots
     slice-write-slots

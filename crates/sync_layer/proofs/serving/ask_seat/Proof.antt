@@ -16,10 +16,6 @@ seat-at-requires c κs = search needs
 mul-ask : tie.Need-mul-ask
 mul-ask c = search needs
 
--- src/serving.rt:123:9
-add-ask : tie.Need-add-ask
-add-ask c = search needs
-
 -- src/serving.rt:118:9
 ask-requires : tie.Need-ask-requires
 ask-requires c κs = search (needs, servings)
@@ -39,4 +35,4 @@ returns c = search (needs, servings)
 pub ask-seat-spec : {M : Type 1} → statement M
 ask-seat-spec =
     tie.close
-    (tie.spec seat-at-requires mul-ask add-ask ask-requires set-seat-requires same-length returns)
+    (tie.spec seat-at-requires mul-ask ask-requires set-seat-requires same-length returns)

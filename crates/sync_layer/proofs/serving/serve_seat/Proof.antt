@@ -41,8 +41,12 @@ returns : tie.Need-returns
 returns c = search (needs, servings)
 
 -- src/serving.rt:152:9
+add-ask-seat : tie.Need-add-ask-seat
+add-ask-seat c = search needs
+
+-- src/serving.rt:152:9
 ask-seat-requires : tie.Need-ask-seat-requires
-ask-seat-requires c κs = search needs
+ask-seat-requires c κs = search (needs, servings)
 
 -- src/serving.rt:153:5
 mul-inputs-2 : tie.Need-mul-inputs-2
@@ -92,6 +96,7 @@ serve-seat-spec =
     same-length
     same-length-2
     returns
+    add-ask-seat
     ask-seat-requires
     mul-inputs-2
     slice-write-inputs-2

@@ -4,18 +4,19 @@ use mathlib.Core.Path.{_≡_}
 use lib.ListN.{length}
 use borrow.Author.Needs.{needs}
 use Rattle.desk_value.specs.Value as held
+use Rattle.desk_value_face.specs.Said.{saidWords}
 use Rattle.desk_value_face.proofs.Keeping.{open-kept}
-use Rattle.desk_value_face.proofs.value_night.Statement.{statement}
-use Rattle.desk_value_face.proofs.value_night.Tie as tie
-use Rattle.desk_value_face.proofs.value_night.Reads as reads
-use Rattle.desk_value_face.proofs.value_night.Lts as lts
+use Rattle.desk_value_face.proofs.night.Statement.{statement}
+use Rattle.desk_value_face.proofs.night.Tie as tie
+use Rattle.desk_value_face.proofs.night.Reads as reads
+use Rattle.desk_value_face.proofs.night.Lts as lts
 use Rattle.desk_value.proofs.Desk.setup.Reads as setup-reads
 use Rattle.desk_value_face.proofs.mark.Reads as mark-reads
 use Rattle.desk_value_face.proofs.set_console.Reads as set-console-reads
 use Rattle.desk_value_face.proofs.turn.Reads as turn-reads
 
 abbrev Inv-loop : tie.InvT-loop
-Inv-loop words frames said₀ desk₀ frame₀ said desk frame = held.Whole desk × (frame ≤ frames) × (length said ≡ length said₀) × (7 ≤ length said)
+Inv-loop words frames said₀ desk₀ frame₀ said desk frame = held.Whole desk × (frame ≤ frames) × (length said ≡ length said₀) × (saidWords ≤ length said)
 
 abbrev μ-loop : tie.MeasureT-loop
 μ-loop words frames said₀ desk₀ frame₀ said desk frame = frames - frame
@@ -96,8 +97,8 @@ same-length c = search needs
 returns : tie.Need-returns Inv-loop μ-loop
 returns c = search needs
 
-pub value-night-spec : {M : Type 1} → statement M
-value-night-spec =
+pub night-spec : {M : Type 1} → statement M
+night-spec =
     tie.close
     (tie.spec
     Inv-loop
