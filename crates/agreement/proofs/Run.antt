@@ -56,10 +56,6 @@ module _ (d : Desk) (t f w : ℕ) where
   unfolding taken
   taken-other s h = seat-other (d .seats) t s (add (wordsOf (d .words) t) (queueOf d t) f w) h
 
-  taken-words : (taken d t f w) .words ≡ addWords (d .words) (ringOf t) (queueOf d t) f w
-  unfolding taken
-  taken-words = refl
-
   taken-shape : {n L : ℕ} → Shape n L d → Shape n L (taken d t f w)
   unfolding taken
   taken-shape s = record {
@@ -72,10 +68,6 @@ module _ (d : Desk) (t f w : ℕ) where
     words = omega (arith, add-long (d .words) (ringOf t) (queueOf d t) f w, s .words);
     slots = s .slots;
   }
-
-  taken-view : (viewOf (taken d t f w) .current ≡ d .state .current) × (viewOf (taken d t f w) .row ≡ viewOf d .row) × (viewOf (taken d t f w) .state ≡ viewOf d .state) × (viewOf (taken d t f w) .holds ≡ viewOf d .holds)
-  unfolding taken
-  taken-view = (refl, refl, refl, refl)
 
 module _ {step : Console → List ℕ → Console} {p : ℕ → ℕ} {n L : ℕ} {delay : ℕ → ℕ} {A : ℕ → List ℕ} {d : Desk} (z : p 0 ≡ 0) (i : (v : ℕ) → p (p v) ≡ p v) where
   pub taken-good : Good step p n L delay A d → (t w : ℕ) (A′ : ℕ → List ℕ)

@@ -1,12 +1,7 @@
 // The console: what one frame's words do to the scan.
 use frame_info::box_of;
 ghost use mathlib.Core.Path.{_≡_};
-ghost use mathlib.Core.List.{List};
-ghost use Prim.Native.Nat.{ℕ};
-ghost use lib.IntN.{pos, _+ℤ_};
-ghost use lib.Bits.{bitXor};
-ghost use Rattle.frame_info.specs.Word.{jogOf};
-ghost use Rattle.console.specs.Step.{start, extended, moved, rotated, sealed, kindOf, stepOf};
+ghost use Rattle.console.specs.Step.{start, extended, moved, sealed, kindOf, stepOf};
 
 pub struct Console {
     pub head: u32,

@@ -10,7 +10,6 @@ use cues_text::tell_frame;
 use cues_text::tell_number;
 use frame_info::PlayerInput;
 use sync_layer_value::SyncLayer;
-ghost use mathlib.Core.Path.{_≡_};
 ghost use Prim.Native.Nat.{_+_, _≤_, _<_};
 ghost use lib.ListN.{length};
 ghost use Rattle.sync_layer_value.specs.Value.{Whole};

@@ -1,5 +1,5 @@
 -- Whichever call is made, the queue stays whole. Assumes nothing.
-use Prim.Native.Nat.{ℕ, _≤_}
+use Prim.Native.Nat.{ℕ}
 use native.Mathlib.Omega.{arith}
 use mathlib.Core.Path.{_≡_}
 use mathlib.Core.Logic.{⊎-elim}
@@ -10,7 +10,6 @@ use Rattle.frame_info.proofs.Split.{split-eqb}
 use Rattle.frame_info.specs.declared.PlayerInput.{PlayerInput}
 use Rattle.input_queue.proofs.Kept.{opened-sane, add-whole, served-whole, discarded-whole, reset-whole, delayed-whole}
 use Rattle.input_queue_value.specs.declared.InputQueue.{InputQueue}
-use Rattle.input_queue_value.specs.declared.OpenedQueue.{OpenedQueue}
 use Rattle.input_queue_value.specs.Value as held
 use Rattle.cues_text.specs.Args.{numberArg, frameArg}
 use Rattle.cues_queue.specs.Queue.{inputArg, queueAfter}
@@ -68,8 +67,5 @@ module _ (q : InputQueue) (w : held.Whole q) where
       (split-eqb call 0)
 
 -- as a caller meets it
-pub open-whole : (p d : ℕ) (o : OpenedQueue) → o ≡ held.opened p d → held.Whole (o .queue)
-open-whole p d o e = rw e (held-opened-whole p d)
-
 pub make-whole : (call : ℕ) (a : List ℕ) (q r : InputQueue) → held.Whole q → r ≡ queueAfter call a q → held.Whole r
 make-whole call a q r w e = rw e (made-whole q w call a)

@@ -1,8 +1,7 @@
 -- What a call tells is what its definition says, with the fields as they were read. A frame that crosses the edge comes back from its bits as f′,
 -- a place as z. Assumes nothing.
 use Prim.Native.Nat.{ℕ, _+_}
-use mathlib.Core.Path.{_≡_, refl}
-use mathlib.Core.Bool.{Bool}
+use mathlib.Core.Path.{_≡_}
 use mathlib.Core.List.{List, []}
 use lib.IntN.{ℤ}
 use lib.ListN.{length}

@@ -1,21 +1,21 @@
 -- One text put after another. Assumes nothing.
-use Prim.Native.Nat.{ℕ, suc, _+_, _-_, _≤_, _<_, _^_}
+use Prim.Native.Nat.{ℕ, suc, _+_, _-_, _≤_}
 use native.Mathlib.Omega.{arith}
 use native.Mathlib.Nat.{add-zero, add-suc, suc-add}
 use native.Mathlib.Numerals.{add-one}
-use mathlib.Core.Path.{_≡_, refl, ap, sym, _∙_}
+use mathlib.Core.Path.{_≡_, ap, _∙_}
 use mathlib.Core.List.{List, [], _∷_, _++_, append-nil}
-use lib.ListN.{length, set, getD, length-append, length-set}
-use lib.Seq.{sets, length-sets}
+use lib.ListN.{length, set, getD, length-append}
+use lib.Seq.{sets}
 use mathlib.Core.Bool.{Bool}
 use mathlib.Core.Logic.{⊎-elim}
 use lib.IntN.{ℤ}
 use mir.Syntax.{w32}
-use mir.Val.{Fits, SFits, toZ}
+use mir.Val.{Fits, toZ}
 use borrow.Author.Tests.{eq-eqb, ne-eqb}
 use Rattle.frame_info.proofs.Split.{split-eqb}
-use Rattle.digits.specs.Digits.{decimalText, signedText, wordText}
-use Rattle.digits.proofs.Bounds.{decimal-short, signed-short, word-eight}
+use Rattle.digits.specs.Digits.{decimalText}
+use Rattle.digits.proofs.Bounds.{decimal-short}
 use Rattle.cues_text.specs.Args.{lowOf, frameArg}
 use Rattle.cues_text.specs.Text.{space, answerText, standingByte, standingValue, letterValue}
 

@@ -4,7 +4,7 @@ mod reading;
 
 use cues_world::World;
 ghost use mathlib.Core.Path.{_≡_};
-ghost use Prim.Native.Nat.{_+_, _≤_, _<_};
+ghost use Prim.Native.Nat.{_≤_, _<_};
 ghost use lib.ListN.{length};
 ghost use Rattle.cues_world.specs.Force.{Whole};
 

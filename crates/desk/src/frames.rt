@@ -20,7 +20,7 @@ ghost use Rattle.console.specs.Step.{stepOf};
 ghost use Rattle.input_queue.specs.Queue.{asked, answer, confirms};
 ghost use Rattle.input_queue.specs.Ring.{wordAt};
 ghost use Rattle.sync_layer.specs.Lists.{writeRow};
-ghost use Rattle.sync_layer.specs.Seats.{maxSeats, seatWords, ringOf, seatAt, mapSeats};
+ghost use Rattle.sync_layer.specs.Seats.{maxSeats, ringOf, seatAt, mapSeats};
 ghost use Rattle.sync_layer.specs.Slots.{maxLimit, slotWords, servedFrom, slotOf, saveSlot};
 ghost use Rattle.sync_layer.specs.Calls.{statusOf};
 ghost use Rattle.sync_layer.specs.Whole.{WordRoom, SlotRoom};

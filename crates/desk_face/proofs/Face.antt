@@ -16,7 +16,7 @@ use Rattle.frame_info.specs.Frame.{countOf}
 use Rattle.frame_info.proofs.Split.{split-eqb}
 use Rattle.sync_layer.specs.Lists.{writeRow}
 use Rattle.sync_layer.specs.Seats.{maxSeats}
-use Rattle.sync_layer.proofs.Rows.{row-long, row-same}
+use Rattle.sync_layer.proofs.Rows.{row-same}
 use Rattle.console.specs.declared.Console.{Console}
 use Rattle.desk.specs.declared.DeskState.{DeskState}
 use Rattle.desk.specs.declared.Taken.{Taken}
@@ -32,10 +32,6 @@ use Rattle.desk.proofs.Loops.{write-eq}
 use Rattle.desk_face.specs.Lists.{stateWords, numbersOf, deskAt, setDesk, setOne, setReport, setConsole}
 use Rattle.desk_face.specs.Face as face
 use Rattle.desk_face.specs.Face.{Lent, Left, lent, left, roomFor, leaves, does}
-
-pub desk-long : (l : List ℕ) (y : DeskState) → length (setDesk l y) ≡ length l
-unfolding setDesk
-desk-long l y = row-long stateWords l 0 (λ k. getD (numbersOf y) k 0)
 
 -- what was written is read back
 pub desk-back : (l : List ℕ) (y : DeskState) → stateWords ≤ length l → deskAt (setDesk l y) ≡ y

@@ -9,8 +9,6 @@ use sync_layer::WORDS_LENGTH;
 ghost use mathlib.Core.Path.{_≡_};
 ghost use Prim.Native.Nat.{_≤_};
 ghost use lib.ListN.{length};
-ghost use Rattle.sync_layer.specs.Calls as calls;
-ghost use Rattle.sync_layer.specs.Whole.{Seated, WordRoom};
 ghost use Rattle.desk_face.specs.Lists.{layerWords, layerAt, setLayer, consoleOf};
 ghost use Rattle.desk_face.specs.Layers.{roomToSave, saveNumber, saveState, saveSlots, SaveReady, roomToRequest, requestNumber, requestSeats, requestInputs, requestStatuses, RequestReady};
 

@@ -1,11 +1,9 @@
 // Numbers as text: read from lent bytes, and written into lent bytes.
 ghost use mathlib.Core.Path.{_≡_};
-ghost use Prim.Native.Nat.{_+_, _*_, _≤_, _<_, _^_};
-ghost use lib.ListN.{length, getD, set};
+ghost use Prim.Native.Nat.{_+_, _*_, _≤_, _<_};
+ghost use lib.ListN.{length, set};
 ghost use lib.Seq.{sets};
 ghost use lib.IntN.{pos, negℤ, natAbs};
-ghost use mir.Syntax.{w32};
-ghost use mir.Val.{toZ};
 ghost use Rattle.digits.specs.Digits.{digitOf, numberOf, andThen, patternOf, decimalOf, wordOf, signedOf, digitByte, lastDigits, widthOf, decimalText, signedText, wordText, pairText};
 
 // What a field holds: a number of 32 bits, or anything else.

@@ -1,13 +1,13 @@
 -- The cases of each public answer. A frame that crosses the edge comes back from its bits as f′. Assumes nothing.
 use Prim.Native.Nat.{ℕ, _+_, _-_, _<_, _≤_}
 use native.Mathlib.Omega.{arith}
-use mathlib.Core.Path.{_≡_, refl, sym, ap, _∙_}
+use mathlib.Core.Path.{_≡_, sym, _∙_}
 use mathlib.Core.Bool.{Bool, true, false, not, true≢false}
 use Prim.{absurd}
 use mathlib.Core.Logic.{⊎-elim}
 use mathlib.Core.List.{List}
 use lib.Dec.{eqb}
-use lib.IntN.{ℤ, pos, negsuc}
+use lib.IntN.{ℤ}
 use borrow.Author.Tests.{eq-eqb, ne-eqb, lt-ltb, le-ltb, not-true, not-false}
 use Rattle.frame_info.proofs.Split.{split-eqb, split-ltb}
 use Rattle.frame_info.specs.Frame.{nullFrame, lastCount, countOf, frameOf}

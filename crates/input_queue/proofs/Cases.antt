@@ -1,21 +1,19 @@
 -- The cases of each definition, as the code meets them: from what the tests say to what is answered. Assumes nothing.
 use Prim.Native.Nat.{ℕ, _+_, _-_, min, _<_, _≤_}
 use native.Mathlib.Omega.{arith}
-use mathlib.Core.Path.{_≡_, refl, sym, ap, _∙_}
+use mathlib.Core.Path.{_≡_, ap}
 use mathlib.Core.Bool.{Bool, true, false, not}
 use mathlib.Core.Logic.{⊎-elim}
-use mathlib.Core.List.{List}
 use lib.Dec.{ltb, leb, eqb}
-use lib.IntN.{ℤ, pos, negsuc}
+use lib.IntN.{ℤ}
 use borrow.Author.Tests.{eq-eqb, ne-eqb, lt-ltb, le-ltb, le-leb, lt-leb}
-use Rattle.frame_info.proofs.Split.{split-eqb, split-ltb}
-use Rattle.frame_info.specs.Frame.{nullFrame, lastCount, countOf, frameOf}
+use Rattle.frame_info.proofs.Split.{split-eqb}
+use Rattle.frame_info.specs.Frame.{lastCount}
 use Rattle.frame_info.specs.Word.{playerInput}
 use Rattle.frame_info.specs.declared.PlayerInput.{PlayerInput}
 use Rattle.input_queue.specs.declared.QueueState.{QueueState}
-use Rattle.input_queue.specs.declared.Asked.{Asked}
 use Rattle.input_queue.specs.Queue as queue
-use Rattle.input_queue.specs.Ring.{queueLength, wordAt}
+use Rattle.input_queue.specs.Ring.{queueLength}
 use Rattle.input_queue.specs.Calls as calls
 
 -- Storing -----------------------------------------------------------------------------------------------------------------------

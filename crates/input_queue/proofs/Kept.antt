@@ -15,14 +15,14 @@ use Rattle.frame_info.specs.Frame.{countOf, lastCount}
 use Rattle.frame_info.specs.Word.{predicted}
 use Rattle.frame_info.specs.declared.PlayerInput.{PlayerInput}
 use Rattle.input_queue.specs.declared.QueueState.{QueueState}
-use Rattle.input_queue.specs.Queue.{freshState, newest, put, fill, used, tossed, add, asked, predictingAsked, reset, capped, oldestAfter, discard, delayed}
+use Rattle.input_queue.specs.Queue.{freshState, newest, put, fill, used, add, asked, predictingAsked, reset, capped, oldestAfter, discard, delayed}
 use Rattle.input_queue.specs.Ring.{queueLength, wordAt, putWord, fillWords, addWords}
 use Rattle.input_queue.specs.Calls as calls
 use Rattle.input_queue.specs.Whole.{Sane, Whole}
 use Rattle.input_queue.specs.Runs as runs
 use Rattle.input_queue.specs.Runs.{Queue, Call, add-call, input-call, discard-call, reset-call, delay-call}
 use Rattle.input_queue.proofs.Fills.{put-added, put-ahead, fill-added, fill-ahead}
-use Rattle.input_queue.proofs.Answers.{add-some, add-low}
+use Rattle.input_queue.proofs.Answers.{add-low}
 
 -- Setup
 pub fresh-sane : (d : ℕ) → d ≤ 60 → Sane (freshState d)

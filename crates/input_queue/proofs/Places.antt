@@ -1,9 +1,8 @@
 -- After any run of calls the ring holds exactly the newest 128 places. Assumes nothing.
-use Prim.Native.Nat.{ℕ, zero, suc, _+_, _-_, _%_, _<_, _≤_}
+use Prim.Native.Nat.{ℕ, zero, suc, _+_, _-_, _<_, _≤_}
 use native.Mathlib.Omega.{arith}
-use native.Mathlib.Numerals.{add-one}
-use mathlib.Core.Path.{_≡_, refl, ap, sym, _∙_}
-use mathlib.Core.Bool.{true, false}
+use mathlib.Core.Path.{_≡_, refl, ap, _∙_}
+use mathlib.Core.Bool.{false}
 use mathlib.Core.Logic.{_≢_, _⊎_, ⊎-elim}
 use Prim.{absurd}
 use mathlib.Core.List.{List, [], _∷_, _++_, append-assoc, append-nil}
@@ -11,13 +10,13 @@ use lib.ListN.{length, getD, set, replicate, length-set, length-append, length-r
 use lib.Seq.{getD-set-same, getD-set-other, getD-append-seam}
 use lib.Dec.{ltb, leb, eqb}
 use lib.IntN.{ℤ, pos}
-use borrow.Author.Tests.{ne-eqb, eq-eqb, lt-ltb, le-ltb, le-leb, lt-leb}
+use borrow.Author.Tests.{ne-eqb, lt-ltb, le-ltb, le-leb, lt-leb}
 use Rattle.frame_info.proofs.Split.{split-eqb, split-ltb, split-leb, split-bool}
 use Rattle.frame_info.specs.Frame.{countOf}
-use Rattle.frame_info.specs.Word.{blank, playerInput}
+use Rattle.frame_info.specs.Word.{playerInput}
 use Rattle.frame_info.specs.declared.PlayerInput.{PlayerInput}
 use Rattle.input_queue.specs.declared.QueueState.{QueueState}
-use Rattle.input_queue.specs.Queue.{freshState, newest, put, fill, used, add, asked, reset, discard, delayed}
+use Rattle.input_queue.specs.Queue.{newest, put, fill, used, add, asked, reset, discard, delayed}
 use Rattle.input_queue.specs.Ring.{spot, wordAt, putWord, fillWords, addWords}
 use Rattle.input_queue.specs.Calls as calls
 use Rattle.input_queue.specs.Whole.{Whole}

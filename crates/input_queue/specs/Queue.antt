@@ -3,7 +3,7 @@
 -- A frame in a record is a count, 0 for none and else the frame + 1. `at` reads the ring, from
 -- a place to its word, and `p` is the predictor, from a word to the guess.
 use Prim.Native.Nat.{ℕ, zero, suc, _+_, _-_, min, max}
-use mathlib.Core.Bool.{Bool, true, false, not}
+use mathlib.Core.Bool.{Bool, false, not}
 use lib.Dec.{ltb, eqb}
 use Rattle.frame_info.specs.Choice.{pick}
 use Rattle.frame_info.specs.Word.{blank}

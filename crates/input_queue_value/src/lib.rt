@@ -8,7 +8,6 @@ use input_queue::INPUT_QUEUE_LENGTH;
 use input_queue::QueueState;
 use input_queue::Served;
 ghost use mathlib.Core.Path.{_≡_};
-ghost use lib.IntN.{ℤ};
 ghost use Rattle.input_queue.specs.Calls as calls;
 ghost use Rattle.input_queue_value.specs.Value as held;
 ghost use Rattle.input_queue.specs.Whole.{Whole};

@@ -14,7 +14,7 @@ use Rattle.sheet.specs.declared.Line.{Line}
 use Rattle.sheet.specs.declared.Value.{Value}
 use Rattle.sheet.specs.declared.Value.the-variants.{Is, Wrong}
 use Rattle.sheet.specs.Fields.{fieldsOf}
-use Rattle.sheet.specs.Calls.{Row, row, calls, rowCount, placeOf, noRow, kindAt, valueOf, BAD, PASSED}
+use Rattle.sheet.specs.Calls.{Row, row, calls, rowCount, placeOf, noRow, kindAt, valueOf, BAD}
 use Rattle.sheet.specs.Reading.{Reading, alone, before, fieldsFrom, called, fieldsRead, readingOf}
 
 abbrev Few : ℕ → Reading → Type 0

@@ -4,14 +4,13 @@ use native.Mathlib.Omega.{arith}
 use native.Mathlib.Numerals.{add-one}
 use Prim.{absurd}
 use mathlib.Core.Path.{_≡_, refl, ap, sym, _∙_}
-use mathlib.Core.Bool.{Bool, true, false, _&&_, true≢false}
+use mathlib.Core.Bool.{Bool, true, false, _&&_}
 use mathlib.Core.Logic.{⊎-elim}
 use mathlib.Core.List.{List, [], _∷_}
 use lib.ListN.{length, getD, set, take, drop, drop-of-length-le, length-drop}
-use lib.Seq.{sets, drop-cons, getD-drop}
+use lib.Seq.{sets, drop-cons}
 use lib.Dec.{ltb, eqb}
 use borrow.Author.Tests.{lt-ltb, le-leb, lt-leb, ltb-true, eqb-true}
-use Rattle.frame_info.specs.Choice.{pick}
 use Rattle.frame_info.proofs.Split.{split-ltb}
 use Rattle.digits.specs.Digits as digits
 use Rattle.digits.specs.Digits.{digitOf, allDigits, numberOf, wordOf, valueAfter}
@@ -19,7 +18,7 @@ use Rattle.digits.specs.declared.Number.{Number}
 use Rattle.digits.specs.declared.Number.the-variants.{Of, Not}
 use Rattle.sheet.specs.Fields.{fieldsOf}
 use Rattle.sheet.specs.Steps.{runEnd, fieldStart}
-use Rattle.sheet.specs.Calls.{isHex, countedOf}
+use Rattle.sheet.specs.Calls.{isHex}
 use Rattle.sheet.specs.Bytes.{pairsOf, bytesIn, fitting, bytesAt}
 use Rattle.sheet.proofs.Finding.{and-left, and-right}
 use Rattle.sheet.proofs.Fielding.{end-within, end-after, skip-starts, fields-none, fields-after, field-next}

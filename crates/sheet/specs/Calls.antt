@@ -1,5 +1,5 @@
 -- The calls of a cue sheet: their numbers, names and fields. A call more is a row more.
-use Prim.Native.Nat.{ℕ, _+_, _*_, _/_, _%_}
+use Prim.Native.Nat.{ℕ, _+_, _/_, _%_}
 use Prim.Native.String.{String}
 use Prim.Native.String as text
 use Prim.Native.Char.{code}
@@ -8,7 +8,7 @@ use mathlib.Core.List.{List, [], _∷_}
 use lib.ListN.{length, getD, take, drop}
 use lib.Dec.{eqb, ltb, leb}
 use Rattle.frame_info.specs.Choice.{pick}
-use Rattle.digits.specs.Digits.{digitOf, allDigits, decimalOf, signedOf, wordOf}
+use Rattle.digits.specs.Digits.{allDigits, decimalOf, signedOf, wordOf}
 use Rattle.digits.specs.declared.Number.{Number}
 use Rattle.digits.specs.declared.Number.the-variants.{Of, Not}
 use Rattle.sheet.specs.declared.calls.Call.{Call}

@@ -7,10 +7,10 @@ use mathlib.Core.Bool.{Bool, true, false, true≢false}
 use mathlib.Core.Logic.{⊎-elim}
 use Prim.{absurd}
 use mathlib.Core.List.{List, [], _∷_}
-use lib.ListN.{length, getD}
+use lib.ListN.{length}
 use lib.Dec.{eqb, ltb}
 use lib.IntN.{ℤ}
-use borrow.Author.Tests.{eq-eqb, ne-eqb, lt-ltb, le-ltb, le-leb, lt-leb, eqb-true, eqb-false}
+use borrow.Author.Tests.{eq-eqb, ne-eqb, lt-ltb, le-ltb, le-leb, lt-leb}
 use Rattle.frame_info.proofs.Split.{split-eqb, split-ltb, split-leb}
 use Rattle.frame_info.specs.Frame.{nullFrame, lastCount, predictors, countOf, frameOf}
 use Rattle.frame_info.specs.declared.PlayerInput.{PlayerInput}
@@ -22,13 +22,11 @@ use Rattle.input_queue.specs.declared.Announced.{Announced}
 use Rattle.input_queue.specs.Queue.{discard}
 use Rattle.input_queue.specs.Calls as queue
 use Rattle.input_queue.specs.Whole as queues
-use Rattle.input_queue.specs.Ring.{queueLength}
 use Rattle.sync_layer.specs.declared.LayerState.{LayerState}
-use Rattle.sync_layer.specs.declared.Placed.{Placed}
 use Rattle.sync_layer.specs.Seats.{maxSeats, seatWords, ringOf, seatAt, setSeat, mapSeats}
 use Rattle.sync_layer.specs.Slots.{maxLimit, slotAt, stateIn, clearSlots, highestIn}
 use Rattle.sync_layer.specs.Calls as calls
-use Rattle.sync_layer.specs.Whole.{Ready, Seated, WordRoom, SeatRoom, Places}
+use Rattle.sync_layer.specs.Whole.{Seated, WordRoom, SeatRoom, Places}
 
 -- Setup
 module _ (limit p : ℕ) (l : List ℕ) where

@@ -1,12 +1,11 @@
 -- Seat i's calls leave every other seat's queue and ring alone, over the seat's number. Assumes nothing.
-use Prim.Native.Nat.{ℕ, zero, suc, _+_, _-_, _*_, _%_, _<_, _≤_}
+use Prim.Native.Nat.{ℕ, zero, suc, _+_, _-_, _<_, _≤_}
 use native.Mathlib.Omega.{arith}
-use native.Mathlib.Nat.{mod-lt}
-use mathlib.Core.Path.{_≡_, refl, ap, sym, _∙_}
+use mathlib.Core.Path.{_≡_, refl, _∙_}
 use mathlib.Core.Logic.{_≢_, _⊎_, inl, inr, ⊎-elim}
 use mathlib.Core.Bool.{Bool, true, false}
 use mathlib.Core.List.{List}
-use lib.ListN.{length, getD, set}
+use lib.ListN.{getD, set}
 use lib.Seq.{getD-set-other}
 use lib.Dec.{eqb}
 use Rattle.frame_info.specs.Choice.{pick}
@@ -18,7 +17,7 @@ use Rattle.input_queue.specs.Queue.{newest}
 use Rattle.input_queue.specs.Ring.{queueLength, spot, wordAt, putWord, fillWords, addWords}
 use Rattle.input_queue.specs.Calls as queue
 use Rattle.sync_layer.specs.declared.LayerState.{LayerState}
-use Rattle.sync_layer.specs.Seats.{ringOf, seatAt, setSeat}
+use Rattle.sync_layer.specs.Seats.{ringOf, seatAt}
 use Rattle.sync_layer.specs.Calls as calls
 use Rattle.sync_layer.proofs.Seating.{seat-other}
 

@@ -1,5 +1,5 @@
 -- Requests and lookups over the seats, as the code meets them. Assumes nothing.
-use Prim.Native.Nat.{ℕ, zero, suc, _+_, _-_, _*_, _<_, _≤_}
+use Prim.Native.Nat.{ℕ, zero, suc, _+_, _-_, _<_, _≤_}
 use native.Mathlib.Omega.{arith}
 use native.Mathlib.Nat.{zero-add, add-zero, add-suc}
 use native.Mathlib.Numerals.{add-one}
@@ -11,24 +11,23 @@ use mathlib.Core.List.{List}
 use lib.ListN.{length, getD, set, length-set}
 use lib.Dec.{eqb, leb}
 use lib.IntN.{ℤ, pos}
-use borrow.Author.Tests.{eq-eqb, ne-eqb, lt-ltb, le-ltb, le-leb, lt-leb, not-true, not-false, eqb-true}
-use Rattle.frame_info.proofs.Split.{split-bool, split-eqb}
-use Rattle.frame_info.specs.Frame.{nullFrame, countOf, frameOf, lastCount}
+use borrow.Author.Tests.{eq-eqb, ne-eqb, not-true, not-false, eqb-true}
+use Rattle.frame_info.proofs.Split.{split-eqb}
+use Rattle.frame_info.specs.Frame.{nullFrame, countOf, frameOf}
 use Rattle.frame_info.specs.Word.{blank, predicted}
 use Rattle.frame_info.specs.Status.{statusDisconnected}
 use Rattle.input_queue.specs.declared.QueueState.{QueueState}
 use Rattle.input_queue.specs.declared.Asked.{Asked}
 use Rattle.input_queue.specs.Calls as queue
-use Rattle.input_queue.specs.Queue.{asking, asked, answer, confirms}
+use Rattle.input_queue.specs.Queue.{asking, asked}
 use Rattle.input_queue.specs.Ring.{wordAt}
 use Rattle.input_queue.specs.Whole as queues
 use Rattle.sync_layer.specs.declared.LayerState.{LayerState}
 use Rattle.sync_layer.specs.Lists.{writeRow, firstRefusal}
 use Rattle.sync_layer.specs.Seats.{ringOf, seatAt, setSeat, mapSeats}
 use Rattle.sync_layer.specs.Calls as calls
-use Rattle.sync_layer.specs.Whole.{Ready, Seated, WordRoom, Places, Serves}
-use Rattle.sync_layer.proofs.Rows.{row-long}
-use Rattle.sync_layer.proofs.Seating.{seat-long, seat-kept, seat-other, map-past, map-long}
+use Rattle.sync_layer.specs.Whole.{Seated, WordRoom, Places, Serves}
+use Rattle.sync_layer.proofs.Seating.{seat-long, seat-kept, map-past}
 
 -- the status list
 module _ (f : ℕ) (gone : List Bool) (last : List ℤ) (i : ℕ) where

@@ -1,5 +1,5 @@
 -- What a call presumes of a layer is given by a setup and kept by every call, refused or not. Assumes nothing.
-use Prim.Native.Nat.{ℕ, zero, suc, _+_, _-_, _*_, _<_, _≤_, min}
+use Prim.Native.Nat.{ℕ, zero, suc, _+_, _-_, _<_, _≤_}
 use native.Mathlib.Omega.{arith}
 use mathlib.Core.Path.{_≡_, refl, ap, sym, _∙_}
 use mathlib.Core.Bool.{Bool, true, false, true≢false}
@@ -21,7 +21,6 @@ use Rattle.input_queue.specs.Queue.{freshState, reset, discard, asked}
 use Rattle.input_queue.specs.Ring.{wordAt}
 use Rattle.input_queue.specs.Calls as queue
 use Rattle.input_queue.specs.Whole.{Sane}
-use Rattle.input_queue.specs.Whole as queues
 use Rattle.input_queue.proofs.Kept.{fresh-sane, asked-sane, discard-sane, reset-sane, add-long, add-whole, delayed-whole}
 use Rattle.sync_layer.specs.declared.LayerState.{LayerState}
 use Rattle.sync_layer.specs.Seats.{ringOf, seatAt, setSeat, mapSeats}

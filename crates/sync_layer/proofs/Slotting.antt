@@ -1,12 +1,12 @@
 -- The saved slots, over the slot's number. Assumes nothing.
-use Prim.Native.Nat.{ℕ, zero, suc, _+_, _-_, _*_, _%_, _<_, _≤_, min, max}
+use Prim.Native.Nat.{ℕ, zero, _+_, _-_, _*_, _<_, _≤_, max}
 use native.Mathlib.Omega.{arith}
 use native.Mathlib.Nat.{add-zero}
 use native.Mathlib.Numerals.{add-one}
-use mathlib.Core.Path.{_≡_, refl, ap, sym, _∙_}
-use mathlib.Core.List.{List, [], _∷_}
+use mathlib.Core.Path.{_≡_, refl, ap, _∙_}
+use mathlib.Core.List.{List}
 use lib.ListN.{length, getD, set, length-set}
-use borrow.Author.Tests.{eq-eqb, ne-eqb, lt-ltb, le-ltb, le-leb, lt-leb}
+use borrow.Author.Tests.{le-leb, lt-leb}
 use Rattle.console.specs.declared.Console.{Console}
 use Rattle.sync_layer.specs.Lists.{writeRow}
 use Rattle.sync_layer.specs.Slots.{slotWords, slotOf, slotAt, stateIn, saveSlot, clearSlots, within, highestIn}

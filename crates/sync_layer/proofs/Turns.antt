@@ -1,20 +1,19 @@
 -- The loops over the seats, the delays and the slots: what holds at the head of each. Assumes nothing.
-use Prim.Native.Nat.{ℕ, zero, suc, _+_, _-_, _*_, _<_, _≤_, min, max}
+use Prim.Native.Nat.{ℕ, _+_, _-_, _*_, _<_, _≤_, min, max}
 use native.Mathlib.Omega.{arith}
 use native.Mathlib.Numerals.{add-one}
-use mathlib.Core.Path.{_≡_, refl, ap, sym, _∙_}
-use mathlib.Core.Bool.{Bool, true, false}
-use mathlib.Core.List.{List, [], _∷_}
-use lib.ListN.{length, getD, set, drop, length-set, drop-of-length-le}
+use mathlib.Core.Path.{_≡_, refl, ap, _∙_}
+use mathlib.Core.Bool.{true, false}
+use mathlib.Core.List.{List}
+use lib.ListN.{length, getD, set, drop, drop-of-length-le}
 use lib.Seq.{drop-cons}
-use borrow.Author.Tests.{eq-eqb, ne-eqb, lt-ltb, le-ltb, le-leb, lt-leb}
+use borrow.Author.Tests.{eq-eqb, ne-eqb, le-leb, lt-leb}
 use Rattle.frame_info.specs.Frame.{maxDelay}
 use Rattle.input_queue.specs.declared.QueueState.{QueueState}
 use Rattle.sync_layer.specs.Lists.{lower, lowestOf}
 use Rattle.sync_layer.specs.Seats.{seatWords, seatAt, setSeat, mapSeats}
-use Rattle.sync_layer.specs.Slots.{within, highestIn, clearSlots, slotWords}
 use Rattle.sync_layer.specs.Calls.{delaysInRange}
-use Rattle.sync_layer.proofs.Seating.{seat-long, map-past, map-long}
+use Rattle.sync_layer.proofs.Seating.{seat-long, map-past}
 
 -- every seat so far
 pub record Mapped (h : ℕ → QueueState → QueueState) (n : ℕ) (l₀ l : List ℕ) (i : ℕ) : Type 0 where

@@ -33,7 +33,6 @@ pub use slots::slot_of;
 pub use slots::state_in;
 ghost use mathlib.Core.Path.{_≡_};
 ghost use Prim.Native.Nat.{_+_, _-_, _*_, _≤_, _<_};
-ghost use lib.ListN.{length};
 ghost use Rattle.sync_layer.specs.Calls as calls;
 ghost use Rattle.sync_layer.specs.Slots.{maxLimit, saveSlot};
 ghost use Rattle.sync_layer.specs.Whole.{SeatRoom, WordRoom, SlotRoom, Ready, Seated, Places};

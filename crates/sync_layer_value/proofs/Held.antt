@@ -1,7 +1,7 @@
 -- The answers of a layer by value are those of the lent calls, put together again. A frame that crosses the edge comes back from its
 -- bits as f′. Assumes nothing.
 use Prim.Native.Nat.{ℕ, suc, _*_}
-use mathlib.Core.Path.{_≡_, refl, _∙_}
+use mathlib.Core.Path.{_≡_}
 use mathlib.Core.Bool.{Bool}
 use mathlib.Core.List.{List}
 use lib.IntN.{ℤ}

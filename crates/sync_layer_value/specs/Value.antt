@@ -9,8 +9,6 @@ use Rattle.frame_info.specs.declared.PlayerInput.{PlayerInput}
 use Rattle.console.specs.declared.Console.{Console}
 use Rattle.input_queue.specs.Ring.{queueLength}
 use Rattle.sync_layer.specs.declared.LayerState.{LayerState}
-use Rattle.sync_layer.specs.declared.Saved.{Saved}
-use Rattle.sync_layer.specs.declared.Latest.{Latest}
 use Rattle.sync_layer.specs.declared.Placed.{Placed}
 use Rattle.sync_layer.specs.Seats.{maxSeats, seatWords}
 use Rattle.sync_layer.specs.Slots.{maxLimit, slotWords, saveSlot}

@@ -11,7 +11,6 @@ use sync_layer::SLOTS_LENGTH;
 use sync_layer::Saved;
 use sync_layer::WORDS_LENGTH;
 ghost use mathlib.Core.Path.{_≡_};
-ghost use lib.IntN.{ℤ};
 ghost use Rattle.sync_layer.specs.Calls as calls;
 ghost use Rattle.sync_layer_value.specs.Value as held;
 

@@ -16,9 +16,6 @@ use Rattle.time_sync.proofs.Meeting.{over, under}
 
 -- u makes one, and e is so small that 8192 of it make one
 module _ (u e : ℕ) (U : u ≡ 8192 * e) (E : 0 < e) where
-  u-pos : 0 < u
-  u-pos = omega arith
-
   -- d is 60 q and a rest
   split : (d : ℕ) → d * u ≡ 60 * (d / 60 * u) + d % 60 * u
   split d =

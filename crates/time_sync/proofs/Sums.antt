@@ -12,11 +12,10 @@ use lib.IntN.{ℤ, pos, negsuc, natAbs, _+ℤ_, _-ℤ_}
 use lib.Signed.{mag, ltZ}
 use mir.Syntax.{w32}
 use mir.Val.{SFits, toZ, ofZ}
-use mir.Facts.{toZ-ofZ, toZ-pos}
+use mir.Facts.{toZ-ofZ}
 use borrow.Author.Tests.{ltb-true, le-ltb}
 use Rattle.frame_info.proofs.Split.{split-ltb}
-use Rattle.frame_info.proofs.Signed.{down}
-use Rattle.time_sync.specs.Sums.{residue, sumTo, wrapped, windowSum}
+use Rattle.time_sync.specs.Sums.{residue, sumTo, windowSum}
 
 -- a residue is below 2^32
 pub residue-lt : (z : ℤ) → residue z < 2 ^ 32
@@ -36,13 +35,6 @@ residue-add (pos a) (pos b) = omega arith
 residue-add (pos a) (negsuc b) = mixed a b
 residue-add (negsuc a) (pos b) = mixed b a ∙ ap (λ (x : ℕ). x % 2 ^ 32) (omega arith)
 residue-add (negsuc a) (negsuc b) = omega arith
-
--- a number and its i32 differ by a multiple of 2^32
-read-back : (b : ℕ) → b < 2 ^ 32 → residue (toZ w32 b) ≡ b
-read-back b h = ⊎-elim (λ w. simp (w .1) (omega (arith, w .0))) (λ w. simp (w .1) (omega (arith, w .0))) (split-ltb b 2147483648)
-
-pub wrapped-same : (z : ℤ) → residue (wrapped z) ≡ residue z
-wrapped-same z = read-back (residue z) (residue-lt z)
 
 -- -1 less a number below 0, as the code works it out on 32 bits
 flipped : (z : ℤ) → ltZ z (pos 0) ≡ true → negsuc 0 -ℤ z ≡ pos (mag z)

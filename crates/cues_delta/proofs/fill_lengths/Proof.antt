@@ -1,7 +1,6 @@
 use lib.ListN.{length}
 use mathlib.Core.Path.{_≡_}
-use Prim.Native.Nat.{_+_, _-_, _*_, _≤_}
-use native.Mathlib.Omega.{arith}
+use Prim.Native.Nat.{_-_, _≤_}
 use borrow.Author.Needs.{needs}
 use Rattle.cues_delta.proofs.fill_lengths.Statement.{statement}
 use Rattle.cues_delta.proofs.fill_lengths.Tie as tie

@@ -1,7 +1,6 @@
 use lib.ListN.{length}
 use mathlib.Core.Path.{_≡_}
 use Prim.Native.Nat.{_+_, _-_, _*_, _≤_}
-use native.Mathlib.Omega.{arith}
 use borrow.Author.Needs.{needs}
 use Rattle.cues_delta.proofs.put_lengths_value.Statement.{statement}
 use Rattle.cues_delta.proofs.put_lengths_value.Tie as tie

@@ -1,8 +1,8 @@
 use native.Mathlib.Omega.{arith}
 use borrow.Author.Needs.{needs}
 use Rattle.sync_layer.proofs.Turns.{ranging}
-use Prim.Native.Nat.{ℕ, _-_}
-use lib.ListN.{length, getD}
+use Prim.Native.Nat.{_-_}
+use lib.ListN.{length}
 use Rattle.sync_layer.proofs.Turns.{InRange}
 use Rattle.sync_layer.proofs.delays_in_range.Statement.{statement}
 use Rattle.sync_layer.proofs.delays_in_range.Tie as tie

@@ -1,6 +1,6 @@
 use lib.ListN.{length}
 use mathlib.Core.Path.{_≡_}
-use Prim.Native.Nat.{_+_, _≤_}
+use Prim.Native.Nat.{_≤_}
 use borrow.Author.Needs.{needs}
 use Rattle.cuesheet.proofs.reading.next_line.Statement.{statement}
 use Rattle.cuesheet.proofs.reading.next_line.Tie as tie

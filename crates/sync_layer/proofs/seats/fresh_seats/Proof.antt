@@ -1,7 +1,7 @@
 use native.Mathlib.Omega.{arith}
 use borrow.Author.Needs.{needs}
 use Rattle.sync_layer.proofs.Turns.{mapping}
-use Prim.Native.Nat.{ℕ, _-_}
+use Prim.Native.Nat.{_-_}
 use lib.ListN.{length, getD}
 use Rattle.sync_layer.proofs.Turns.{Mapped}
 use Rattle.input_queue.specs.Queue.{freshState}

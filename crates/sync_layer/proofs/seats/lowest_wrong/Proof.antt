@@ -1,7 +1,7 @@
 use native.Mathlib.Omega.{arith}
 use borrow.Author.Needs.{needs}
 use Rattle.sync_layer.proofs.Turns.{lowering}
-use Prim.Native.Nat.{ℕ, _-_}
+use Prim.Native.Nat.{_-_}
 use Rattle.sync_layer.proofs.Turns.{Lowest}
 use Rattle.sync_layer.specs.Seats.{seatAt}
 use Rattle.sync_layer.proofs.seats.lowest_wrong.Statement.{statement}

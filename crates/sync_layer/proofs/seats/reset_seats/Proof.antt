@@ -1,7 +1,7 @@
 use native.Mathlib.Omega.{arith}
 use borrow.Author.Needs.{needs}
 use Rattle.sync_layer.proofs.Turns.{mapping}
-use Prim.Native.Nat.{ℕ, _-_}
+use Prim.Native.Nat.{_-_}
 use Rattle.sync_layer.proofs.Turns.{Mapped, mapped-turn}
 use Rattle.input_queue.specs.Queue.{reset}
 use Rattle.sync_layer.proofs.seats.reset_seats.Statement.{statement}

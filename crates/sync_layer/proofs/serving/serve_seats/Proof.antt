@@ -1,5 +1,5 @@
 use native.Mathlib.Omega.{arith}
-use Prim.Native.Nat.{ℕ, _-_}
+use Prim.Native.Nat.{_-_}
 use borrow.Author.Needs.{needs}
 use Rattle.sync_layer.proofs.Asking.{Serving, serving-serves, servings}
 use Rattle.sync_layer.proofs.serving.serve_seats.Statement.{statement}

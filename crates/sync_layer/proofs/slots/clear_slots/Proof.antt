@@ -1,7 +1,7 @@
 use native.Mathlib.Omega.{arith}
 use borrow.Author.Needs.{needs}
 use Rattle.sync_layer.proofs.Slotting.{clearing}
-use Prim.Native.Nat.{ℕ, _-_}
+use Prim.Native.Nat.{_-_}
 use Rattle.sync_layer.proofs.Slotting.{Cleared}
 use Rattle.sync_layer.proofs.slots.clear_slots.Statement.{statement}
 use Rattle.sync_layer.proofs.slots.clear_slots.Tie as tie

@@ -1,7 +1,7 @@
 use native.Mathlib.Omega.{arith}
 use borrow.Author.Needs.{needs}
 use Rattle.sync_layer.proofs.Slotting.{heights}
-use Prim.Native.Nat.{ℕ, _-_}
+use Prim.Native.Nat.{_-_}
 use Rattle.sync_layer.proofs.Slotting.{Highest}
 use Rattle.sync_layer.proofs.slots.highest_in.Statement.{statement}
 use Rattle.sync_layer.proofs.slots.highest_in.Tie as tie
