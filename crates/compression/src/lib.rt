@@ -4,6 +4,8 @@
 // input its length, as two bytes with the low one first, and then its bytes, XORed with the base as far as both reach
 // and as they are from there on. The first base is the reference, each later one the input before. The base is handed
 // back by `base` as a part of what it stands in, and is never copied.
+#![tactic(auto)]
+
 ghost use Rattle.std.specs.Prelude.{◌≡◌, ◌+◌, ◌-◌, ◌*◌, ◌≤◌, ◌<◌, min, length, take, drop, get_or, eqb};
 ghost use Rattle.std.proofs.Math.Seq.{paste};
 ghost use Rattle.compression.specs.Layout.{length_limit, masked, size_of, record_of, packed, split, total};
@@ -15,14 +17,14 @@ ghost use Rattle.compression.specs.Inside.{base_at, counted};
 use frame_info::refusal;
 
 // What packing answers: its number, and how many bytes it wrote.
-#[derive(Drop)]
+#[derive(Clone, Copy)]
 pub struct Packed {
     pub no: u32,
     pub bytes: usize,
 }
 
 // What unpacking answers: its number, and how many bytes and lengths it wrote.
-#[derive(Drop)]
+#[derive(Clone, Copy)]
 pub struct Unpacked {
     pub no: u32,
     pub bytes: usize,
@@ -30,7 +32,7 @@ pub struct Unpacked {
 }
 
 // What stands at a place of a packet.
-#[derive(Drop)]
+#[derive(Clone, Copy)]
 pub enum Record {
     // Nothing: the packet ends here.
     End,
@@ -213,7 +215,7 @@ fn record_at(packet: &[u8], at: usize) -> Record
 }
 
 // A packet that is held, and a place in it.
-#[derive(Drop)]
+#[derive(Clone, Copy)]
 pub struct Reader<'a> {
     pub packet: &'a [u8],
     pub at: usize,

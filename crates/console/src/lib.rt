@@ -1,10 +1,12 @@
 // The console: what one frame's words do to the scan.
+#![tactic(auto)]
+
 ghost use Rattle.std.specs.Prelude.{◌≡◌};
 ghost use Rattle.console.specs.Step.{start, extended, moved, sealed, kind_of, step_of};
 
 use frame_info::box_of;
 
-#[derive(Drop)]
+#[derive(Clone, Copy)]
 pub struct Console {
     pub head: u32,
     pub kind: u32,

@@ -1,4 +1,6 @@
 // Delta coding's calls: each makes its call on the library and tells its answer, with the lent bytes and lengths whole.
+#![tactic(auto)]
+
 ghost use Rattle.std.specs.Prelude.{◌≡◌, ◌+◌, ◌*◌, ◌≤◌, ◌<◌, length};
 
 use cues_text::{number_arg, put_letter_value, put_number, put_number_value};

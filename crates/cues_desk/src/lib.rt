@@ -1,4 +1,6 @@
 // The calls of the desk in force, by value: each makes its call and tells its answer.
+#![tactic(auto)]
+
 mod rows;
 
 ghost use Rattle.std.specs.Prelude.{◌≡◌, ◌+◌, ◌≤◌, ◌<◌, length};
@@ -24,7 +26,7 @@ const SHOW: u32 = 4;
 const LOG: u32 = 5;
 
 // What a call leaves: the desk, and where its answer ends.
-#[derive(Drop)]
+#[derive(Clone, Copy)]
 pub struct Told {
     pub desk: Desk,
     pub at: usize,

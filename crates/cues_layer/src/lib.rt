@@ -1,4 +1,6 @@
 // The calls of the layer in force, by value: each makes its call and tells its answer.
+#![tactic(auto)]
+
 mod fields;
 mod tell;
 
@@ -40,7 +42,7 @@ const DELAY: u32 = 12;
 const RESET: u32 = 13;
 
 // What a call leaves: the layer, and where its answer ends.
-#[derive(Drop)]
+#[derive(Clone, Copy)]
 pub struct Told {
     pub layer: SyncLayer,
     pub at: usize,

@@ -1,4 +1,6 @@
 // The calls of the queue in force, by value: each makes its call and tells its answer.
+#![tactic(auto)]
+
 ghost use Rattle.std.specs.Prelude.{◌≡◌, ◌+◌, ◌≤◌, length};
 ghost use Rattle.std.proofs.lemmas.List.Edits.{sets};
 ghost use Rattle.input_queue_value.specs.Value.{Whole};
@@ -26,7 +28,7 @@ const RESET: u32 = 5;
 const DELAY: u32 = 6;
 
 // What a call leaves: the queue, and where its answer ends.
-#[derive(Drop)]
+#[derive(Clone, Copy)]
 pub struct Told {
     pub queue: InputQueue,
     pub at: usize,

@@ -1,4 +1,6 @@
 // The windows of time sync, and their calls: each makes its call on the library and tells its answer.
+#![tactic(auto)]
+
 ghost use Rattle.std.specs.Prelude.{◌+◌, ◌≤◌, ◌≡◌, length};
 ghost use Rattle.time_sync.specs.Windows.{fresh};
 ghost use Rattle.cues_sync.specs.Sync as windows;
@@ -17,7 +19,7 @@ const AVERAGE: u32 = 2;
 const AVERAGES: u32 = 3;
 
 // What a call leaves: the windows, and where its answer ends.
-#[derive(Drop)]
+#[derive(Clone, Copy)]
 pub struct Told {
     pub sync: TimeSync,
     pub at: usize,

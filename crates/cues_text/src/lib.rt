@@ -1,5 +1,7 @@
 // The fields of a line as a call takes them, and the shapes of answers: the number, and values after it where that is 0. Each is put into `out`
 // from a place on, and answers where it ends.
+#![tactic(auto)]
+
 ghost use Rattle.std.specs.Prelude.{◌≡◌, [], ◌+◌, ◌≤◌, ◌<◌, length};
 ghost use Rattle.std.proofs.lemmas.List.Edits.{sets};
 ghost use Rattle.digits.specs.Digits.{decimal_text};

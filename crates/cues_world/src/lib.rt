@@ -1,5 +1,7 @@
 // What is in force while a sheet is read, as one value, and one line of a sheet: it is read, its
 // call is made on the part of the world that it names, and its answer's line is written.
+#![tactic(auto)]
+
 ghost use Rattle.std.specs.Prelude.{◌≡◌, ◌+◌, ◌≤◌, ◌<◌, length, set};
 ghost use Rattle.std.proofs.lemmas.List.Edits.{sets};
 ghost use Rattle.sheet.specs.Calls as calls;
@@ -14,7 +16,7 @@ use sync_layer_value::SyncLayer;
 use time_sync::TimeSync;
 
 // What is in force, and how many bytes of the output are filled.
-#[derive(Drop)]
+#[derive(Clone, Copy)]
 pub struct World {
     pub queue: InputQueue,
     pub layer: SyncLayer,

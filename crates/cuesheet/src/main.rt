@@ -1,5 +1,7 @@
 // cuesheet: reads a cue sheet on standard input, makes its calls on the library, and writes one
 // answer line for each.
+#![tactic(auto)]
+
 mod reading;
 
 ghost use Rattle.std.specs.Prelude.{◌≡◌, ◌≤◌, ◌<◌, length};

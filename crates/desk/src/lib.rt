@@ -6,6 +6,8 @@
 // that it touches, and tests for itself. One that refuses answers its number, the desk as it was
 // given, and writes nothing. A refused setup alone writes: it leaves a fresh desk of one seat, which
 // is a seat's numbers and the first slot.
+#![tactic(auto)]
+
 mod frames;
 mod line;
 mod showing;
@@ -23,7 +25,7 @@ use input_queue::INPUT_QUEUE_LENGTH;
 pub use showing::{known, log, show};
 use sync_layer::{MAX_SEATS, lowest_wrong, seat_at, set_seat};
 
-#[derive(Drop)]
+#[derive(Clone, Copy)]
 pub struct DeskState {
     pub seats: u32,
     pub limit: u32,
@@ -33,13 +35,13 @@ pub struct DeskState {
     pub console: Console,
 }
 
-#[derive(Drop)]
+#[derive(Clone, Copy)]
 pub struct Opened {
     pub no: u32,
     pub desk: DeskState,
 }
 
-#[derive(Drop)]
+#[derive(Clone, Copy)]
 pub struct Taken {
     pub no: u32,
     pub place: i32,
@@ -47,32 +49,32 @@ pub struct Taken {
 
 // What was corrected: the lowest mismatch, and how many frames were replayed from it; -1 and 0 where
 // no mismatch stood.
-#[derive(Drop)]
+#[derive(Clone, Copy)]
 pub struct Report {
     pub frame: i32,
     pub count: u32,
 }
 
-#[derive(Drop)]
+#[derive(Clone, Copy)]
 pub struct Settled {
     pub report: Report,
     pub desk: DeskState,
 }
 
-#[derive(Drop)]
+#[derive(Clone, Copy)]
 pub struct Advanced {
     pub no: u32,
     pub report: Report,
     pub desk: DeskState,
 }
 
-#[derive(Drop)]
+#[derive(Clone, Copy)]
 pub struct Shown {
     pub no: u32,
     pub console: Console,
 }
 
-#[derive(Drop)]
+#[derive(Clone, Copy)]
 pub struct Logged {
     pub no: u32,
     pub count: u32,

@@ -8,6 +8,8 @@
 // writes only where it is done, but for `desk_setup`, which leaves a fresh desk where it refuses by
 // 1. What a caller in C still owes is that a pointer is good for its length, that no two lists
 // overlap, and a desk that came from `desk_setup` and the calls after it.
+#![tactic(auto)]
+
 mod layer;
 mod room;
 

@@ -1,5 +1,7 @@
 // The desk as one value, its lists inside: the form by value of `desk`. Each method lends its own
 // lists to that crate's call of the same name, and puts the desk together again.
+#![tactic(auto)]
+
 ghost use Rattle.std.specs.Prelude.{◌≡◌};
 ghost use Rattle.desk.specs.Calls as calls;
 ghost use Rattle.desk_value.specs.Value as held;
@@ -9,7 +11,7 @@ use desk::{DeskState, Logged, Report};
 use frame_info::input_status::InputStatus;
 use sync_layer::{MAX_SEATS, SEATS_LENGTH, SLOTS_LENGTH, WORDS_LENGTH};
 
-#[derive(Drop)]
+#[derive(Clone, Copy)]
 pub struct Desk {
     pub state: DeskState,
     pub seats: [u32; SEATS_LENGTH],
@@ -17,27 +19,27 @@ pub struct Desk {
     pub slots: [u32; SLOTS_LENGTH],
 }
 
-#[derive(Drop)]
+#[derive(Clone, Copy)]
 pub struct OpenedDesk {
     pub no: u32,
     pub desk: Desk,
 }
 
-#[derive(Drop)]
+#[derive(Clone, Copy)]
 pub struct TakenDesk {
     pub no: u32,
     pub place: i32,
     pub desk: Desk,
 }
 
-#[derive(Drop)]
+#[derive(Clone, Copy)]
 pub struct SettledDesk {
     pub report: Report,
     pub desk: Desk,
 }
 
 // The words served and their statuses, seat by seat; 0 past the desk's seats, and where it refuses.
-#[derive(Drop)]
+#[derive(Clone, Copy)]
 pub struct AdvancedDesk {
     pub no: u32,
     pub report: Report,
@@ -47,7 +49,7 @@ pub struct AdvancedDesk {
 }
 
 // The words shown, seat by seat; 0 past the desk's seats, and where it refuses.
-#[derive(Drop)]
+#[derive(Clone, Copy)]
 pub struct ShownDesk {
     pub no: u32,
     pub words: [u32; MAX_SEATS],

@@ -3,6 +3,8 @@
 //
 // This drives the bench and is no call of the desk. So it promises only that no call is made that
 // the desk does not allow, and the bench compares how the night ends with the lent desk and ggrs.
+#![tactic(auto)]
+
 ghost use Rattle.std.specs.Prelude.{◌≡◌, ◌+◌, ◌*◌, ◌<◌, ◌≤◌, length};
 ghost use Rattle.frame_info.specs.Frame.{last_count};
 ghost use Rattle.desk_value.specs.Value as held;

@@ -1,10 +1,12 @@
 // Numbers as text: read from lent bytes, and written into lent bytes.
+#![tactic(auto)]
+
 ghost use Rattle.std.specs.Prelude.{◌≡◌, ◌+◌, ◌*◌, ◌≤◌, ◌<◌, length, set, pos, neg_ℤ, nat_abs};
 ghost use Rattle.std.proofs.lemmas.List.Edits.{sets};
 ghost use Rattle.digits.specs.Digits.{digit_of, number_of, and_then, pattern_of, decimal_of, word_of, signed_of, digit_byte, last_digits, width_of, decimal_text, signed_text, word_text, pair_text};
 
 // What a field holds: a number of 32 bits, or anything else.
-#[derive(Drop)]
+#[derive(Clone, Copy)]
 pub enum Number {
     Of(u32),
     Not,

@@ -3,6 +3,8 @@
 // A frame is an i32 at every public edge, and -1 stands for none. Inside, a frame is a count: 0 for
 // none, else the frame + 1, so that all arithmetic below the edge is unsigned. `count_of` and
 // `frame_of` are the only way across.
+#![tactic(auto)]
+
 pub mod input_status;
 pub mod refusal;
 
@@ -84,7 +86,7 @@ pub fn greater(a: u32, b: u32) -> u32
 }
 
 // One hand's word for one frame.
-#[derive(Drop)]
+#[derive(Clone, Copy)]
 pub struct PlayerInput {
     pub frame: i32,
     pub input: u32,
@@ -123,6 +125,7 @@ pub fn box_of(word: u32) -> u32
 
 // The guess that a predictor makes from the newest word. A number that is no predictor's is taken
 // for 2, the jog cleared; setups refuse it.
+#[tactic(auto, unfolding(crate::specs::Word::predicted))]
 pub fn predict(predictor: u32, word: u32) -> u32
     ensures { result ≡ predicted predictor word }
 {

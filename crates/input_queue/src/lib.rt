@@ -7,6 +7,8 @@
 //
 // Each call tests for itself. One that refuses answers its number, the state as it was given, and
 // writes nothing.
+#![tactic(auto)]
+
 mod steps;
 
 ghost use Rattle.std.specs.Prelude.{◌≤◌, ◌<◌, ◌≡◌};
@@ -24,7 +26,7 @@ pub use steps::{ask, discard, fresh_state, reset, store};
 pub const INPUT_QUEUE_LENGTH: usize = 128;
 
 // Frames are counts here: 0 for none, else the frame + 1.
-#[derive(Drop)]
+#[derive(Clone, Copy)]
 pub struct QueueState {
     // From a frame to its place.
     pub frame_delay: u32,
@@ -43,21 +45,21 @@ pub struct QueueState {
     pub first_incorrect_count: u32,
 }
 
-#[derive(Drop)]
+#[derive(Clone, Copy)]
 pub struct Opened {
     pub no: u32,
     pub predictor: u32,
     pub state: QueueState,
 }
 
-#[derive(Drop)]
+#[derive(Clone, Copy)]
 pub struct Added {
     pub no: u32,
     pub place: i32,
     pub state: QueueState,
 }
 
-#[derive(Drop)]
+#[derive(Clone, Copy)]
 pub struct Served {
     pub no: u32,
     pub word: u32,
@@ -65,19 +67,19 @@ pub struct Served {
     pub state: QueueState,
 }
 
-#[derive(Drop)]
+#[derive(Clone, Copy)]
 pub struct Found {
     pub no: u32,
     pub input: PlayerInput,
 }
 
-#[derive(Drop)]
+#[derive(Clone, Copy)]
 pub struct Discarded {
     pub no: u32,
     pub state: QueueState,
 }
 
-#[derive(Drop)]
+#[derive(Clone, Copy)]
 pub struct Announced {
     pub no: u32,
     pub first: i32,
@@ -88,13 +90,13 @@ pub struct Announced {
 
 // What the steps below a call answer: a place as a count, 0 where the word was tossed, and the
 // state after it; a word, whether it is confirmed, and the state after it.
-#[derive(Drop)]
+#[derive(Clone, Copy)]
 pub struct Stored {
     pub place: u32,
     pub state: QueueState,
 }
 
-#[derive(Drop)]
+#[derive(Clone, Copy)]
 pub struct Asked {
     pub word: u32,
     pub confirmed: bool,

@@ -1,5 +1,7 @@
 // One seat's queue as one value, its ring inside: the form by value of `input_queue`. Each method
 // lends its own ring to that crate's call of the same name, and puts the queue together again.
+#![tactic(auto)]
+
 ghost use Rattle.std.specs.Prelude.{◌≡◌};
 ghost use Rattle.input_queue.specs.Calls as calls;
 ghost use Rattle.input_queue_value.specs.Value as held;
@@ -8,27 +10,27 @@ ghost use Rattle.input_queue.specs.Whole.{Whole};
 use frame_info::PlayerInput;
 use input_queue::{Added, Announced, Found, INPUT_QUEUE_LENGTH, QueueState, Served};
 
-#[derive(Drop)]
+#[derive(Clone, Copy)]
 pub struct InputQueue {
     pub predictor: u32,
     pub state: QueueState,
     pub inputs: [u32; INPUT_QUEUE_LENGTH],
 }
 
-#[derive(Drop)]
+#[derive(Clone, Copy)]
 pub struct OpenedQueue {
     pub no: u32,
     pub queue: InputQueue,
 }
 
-#[derive(Drop)]
+#[derive(Clone, Copy)]
 pub struct AddedQueue {
     pub no: u32,
     pub place: i32,
     pub queue: InputQueue,
 }
 
-#[derive(Drop)]
+#[derive(Clone, Copy)]
 pub struct ServedQueue {
     pub no: u32,
     pub word: u32,
@@ -36,13 +38,13 @@ pub struct ServedQueue {
     pub queue: InputQueue,
 }
 
-#[derive(Drop)]
+#[derive(Clone, Copy)]
 pub struct DiscardedQueue {
     pub no: u32,
     pub queue: InputQueue,
 }
 
-#[derive(Drop)]
+#[derive(Clone, Copy)]
 pub struct AnnouncedQueue {
     pub no: u32,
     pub first: i32,

@@ -42,7 +42,7 @@ pub const ON: u64 = 4294967296;
 
 // What follows a call's name: the least and the most number of fields, and the kinds of the first
 // four. Every later field is of the fourth kind.
-#[derive(Drop)]
+#[derive(Clone, Copy)]
 pub struct Call {
     pub number: u32,
     pub least: u32,

@@ -1,4 +1,6 @@
 // A cue sheet's line: its fields, the call that it names, and what its fields hold.
+#![tactic(auto)]
+
 ghost use Rattle.std.specs.Prelude.{◌≡◌, ◌+◌, ◌*◌, ◌≤◌, ◌<◌, length, get_or, drop, true};
 ghost use Rattle.std.proofs.lemmas.List.Edits.{sets};
 ghost use Rattle.sheet.specs.Fields.{fields_of};
@@ -18,14 +20,14 @@ use calls::{
 };
 
 // What a line asks for: a call, PASSED or BAD, and how many fields follow the name.
-#[derive(Drop)]
+#[derive(Clone, Copy)]
 pub struct Line {
     pub call: u32,
     pub count: u32,
 }
 
 // What a field holds.
-#[derive(Drop)]
+#[derive(Clone, Copy)]
 pub enum Value {
     Is(u64),
     Wrong,

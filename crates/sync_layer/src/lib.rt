@@ -5,6 +5,8 @@
 // that it touches, and tests for itself. One that refuses answers its number, the layer as it was
 // given, and writes nothing; a refused setup alone hands back a fresh layer, and so writes its one
 // seat and its one slot. The crate `sync_layer_value` has the same layer with its lists inside.
+#![tactic(auto)]
+
 mod seats;
 mod serving;
 mod slots;
@@ -43,7 +45,7 @@ pub const WORDS_LENGTH: usize = MAX_SEATS * INPUT_QUEUE_LENGTH;
 
 pub const SLOTS_LENGTH: usize = (MAX_LIMIT as usize + 1) * SLOT_WORDS;
 
-#[derive(Drop)]
+#[derive(Clone, Copy)]
 pub struct LayerState {
     pub num_players: u32,
     pub max_prediction: u32,
@@ -55,50 +57,50 @@ pub struct LayerState {
     pub last_confirmed_count: u32,
 }
 
-#[derive(Drop)]
+#[derive(Clone, Copy)]
 pub struct Opened {
     pub no: u32,
     pub layer: LayerState,
 }
 
-#[derive(Drop)]
+#[derive(Clone, Copy)]
 pub struct Advanced {
     pub no: u32,
     pub layer: LayerState,
 }
 
-#[derive(Drop)]
+#[derive(Clone, Copy)]
 pub struct Confirmed {
     pub no: u32,
     pub layer: LayerState,
 }
 
-#[derive(Drop)]
+#[derive(Clone, Copy)]
 pub struct Loaded {
     pub no: u32,
     pub state: Console,
     pub layer: LayerState,
 }
 
-#[derive(Drop)]
+#[derive(Clone, Copy)]
 pub struct Saved {
     pub no: u32,
     pub state: Console,
 }
 
-#[derive(Drop)]
+#[derive(Clone, Copy)]
 pub struct Latest {
     pub no: u32,
     pub frame: i32,
 }
 
-#[derive(Drop)]
+#[derive(Clone, Copy)]
 pub struct Placed {
     pub no: u32,
     pub place: i32,
 }
 
-#[derive(Drop)]
+#[derive(Clone, Copy)]
 pub struct Announced {
     pub no: u32,
     pub first: i32,

@@ -1,5 +1,7 @@
 // The sync layer as one value, its lists inside. Each method lends its own lists to the call of the
 // same name in `sync_layer`, and puts the layer together again.
+#![tactic(auto)]
+
 ghost use Rattle.std.specs.Prelude.{◌≡◌};
 ghost use Rattle.sync_layer.specs.Calls as calls;
 ghost use Rattle.sync_layer_value.specs.Value as held;
@@ -9,7 +11,7 @@ use frame_info::PlayerInput;
 use frame_info::input_status::InputStatus;
 use sync_layer::{Latest, LayerState, MAX_SEATS, SEATS_LENGTH, SLOTS_LENGTH, Saved, WORDS_LENGTH};
 
-#[derive(Drop)]
+#[derive(Clone, Copy)]
 pub struct SyncLayer {
     pub state: LayerState,
     pub seats: [u32; SEATS_LENGTH],
@@ -17,39 +19,39 @@ pub struct SyncLayer {
     pub slots: [u32; SLOTS_LENGTH],
 }
 
-#[derive(Drop)]
+#[derive(Clone, Copy)]
 pub struct OpenedLayer {
     pub no: u32,
     pub layer: SyncLayer,
 }
 
-#[derive(Drop)]
+#[derive(Clone, Copy)]
 pub struct AdvancedLayer {
     pub no: u32,
     pub layer: SyncLayer,
 }
 
-#[derive(Drop)]
+#[derive(Clone, Copy)]
 pub struct ConfirmedLayer {
     pub no: u32,
     pub layer: SyncLayer,
 }
 
-#[derive(Drop)]
+#[derive(Clone, Copy)]
 pub struct LoadedLayer {
     pub no: u32,
     pub state: Console,
     pub layer: SyncLayer,
 }
 
-#[derive(Drop)]
+#[derive(Clone, Copy)]
 pub struct PlacedLayer {
     pub no: u32,
     pub place: i32,
     pub layer: SyncLayer,
 }
 
-#[derive(Drop)]
+#[derive(Clone, Copy)]
 pub struct AnnouncedLayer {
     pub no: u32,
     pub first: i32,
@@ -59,7 +61,7 @@ pub struct AnnouncedLayer {
 }
 
 // The words and their statuses, seat by seat; 0 past the layer's seats.
-#[derive(Drop)]
+#[derive(Clone, Copy)]
 pub struct ServedLayer {
     pub no: u32,
     pub inputs: [u32; MAX_SEATS],
@@ -67,7 +69,7 @@ pub struct ServedLayer {
     pub layer: SyncLayer,
 }
 
-#[derive(Drop)]
+#[derive(Clone, Copy)]
 pub struct ConfirmedInputs {
     pub no: u32,
     pub frames: [i32; MAX_SEATS],

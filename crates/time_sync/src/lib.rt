@@ -1,4 +1,6 @@
 // How far this side runs ahead of the other, averaged over the last thirty frames.
+#![tactic(auto)]
+
 mod truncate;
 mod wrapping;
 
@@ -12,28 +14,28 @@ ghost use Rattle.time_sync.specs.Readings.{shown, reading_of};
 pub const WINDOW: usize = 30;
 
 // Two windows of thirty frame advantages. Frame f has slot f mod 30 of each.
-#[derive(Drop)]
+#[derive(Clone, Copy)]
 pub struct TimeSync {
     pub local: [i32; WINDOW],
     pub remote: [i32; WINDOW],
 }
 
 // The answer of an advance: its number, and the windows after it.
-#[derive(Drop)]
+#[derive(Clone, Copy)]
 pub struct Advanced {
     pub no: u32,
     pub sync: TimeSync,
 }
 
 // Both averages, in binary32.
-#[derive(Drop)]
+#[derive(Clone, Copy)]
 pub struct Averages {
     pub local: f32,
     pub remote: f32,
 }
 
 // How the half stands to zero, with its size before truncation.
-#[derive(Drop)]
+#[derive(Clone, Copy)]
 pub enum Reading {
     Even,
     Over(f32),

@@ -1,0 +1,9 @@
+use Rattle.input_queue.proofs.Answers.{answers}
+use borrow.Author.Rules.{rules}
+use Rattle.input_queue.proofs.input.Goals as goal
+
+pub returns-then-no-ne0 : goal.returns-then-no-ne0
+returns-then-no-ne0 c = search (rules, answers)
+
+pub returns : goal.returns
+returns c = search (rules, answers)
