@@ -1,0 +1,8 @@
+use Rattle.console.specs.Step.{sealed}
+use Rattle.console.proofs.Laws.{turns}
+use Rattle.std.proofs.Common.{rules}
+use Rattle.console.proofs.seal_word.Goals as goal
+
+pub returns : goal.returns
+unfolding sealed
+returns c = rw (turns c.args.seal c.ranges.seal.fits)
