@@ -1,0 +1,13 @@
+use native.Mathlib.Omega.{arith}
+use Rattle.sync_layer.proofs.Answers.{saves}
+use borrow.Author.Rules.{rules}
+use Rattle.sync_layer.proofs.saved_refusal.Goals as goal
+
+pub returns-then-count-eq0 : goal.returns-then-count-eq0
+returns-then-count-eq0 c = search (rules, saves)
+
+pub returns-then-slot_holds : goal.returns-then-slot_holds
+returns-then-slot_holds c = search (rules, saves)
+
+pub returns : goal.returns
+returns c = search (rules, saves)

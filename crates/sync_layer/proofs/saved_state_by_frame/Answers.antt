@@ -1,0 +1,13 @@
+use native.Mathlib.Omega.{arith}
+use Rattle.sync_layer.proofs.Answers.{saves}
+use borrow.Author.Rules.{rules}
+use Rattle.sync_layer.proofs.saved_state_by_frame.Goals as goal
+
+pub returns-then-no-ne0 : goal.returns-then-no-ne0
+returns-then-no-ne0 c = search (rules, saves)
+
+pub overflow_sub-count : goal.overflow_sub-count
+overflow_sub-count c = search (rules, saves)
+
+pub returns : goal.returns
+returns c = search (rules, saves)

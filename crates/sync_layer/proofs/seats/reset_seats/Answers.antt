@@ -1,0 +1,27 @@
+use native.Mathlib.Omega.{arith}
+use borrow.Author.Rules.{rules}
+use Rattle.sync_layer.proofs.Turns.{mapping}
+use Prim.Native.Nat.{◌-◌}
+use Rattle.sync_layer.proofs.Turns.{Mapped, mapped_turn}
+use Rattle.input_queue.specs.Queue.{reset}
+use Rattle.sync_layer.proofs.seats.reset_seats.Goals as goal
+
+pub loop-i-init : goal.loop-i-init
+loop-i-init c = search (rules, mapping)
+
+pub loop-i-preserved : goal.loop-i-preserved
+loop-i-preserved c =
+    mapped_turn
+    (λ j q. reset q)
+    _
+    _
+    _
+    _
+    c.loop-i.invariant
+    _
+    _
+    _
+    c.loop-i-test.true
+    c.seat_at-s.ensures
+    c.reset.ensures
+    c.set_seat.ensures

@@ -1,0 +1,16 @@
+use native.Mathlib.Omega.{arith}
+use borrow.Author.Rules.{rules}
+use Rattle.sync_layer.proofs.Asking.{lookups}
+use Prim.Native.Nat.{◌-◌}
+use Rattle.sync_layer.specs.Calls as calls
+use Rattle.sync_layer.proofs.Asking.{Unrefused}
+use Rattle.sync_layer.proofs.serving.first_find_refusal.Goals as goal
+
+pub loop-i-init : goal.loop-i-init
+loop-i-init c = search (rules, lookups)
+
+pub returns-then-no-ne0 : goal.returns-then-no-ne0
+returns-then-no-ne0 c = search (rules, lookups)
+
+pub loop-i-preserved : goal.loop-i-preserved
+loop-i-preserved c = search (rules, lookups)

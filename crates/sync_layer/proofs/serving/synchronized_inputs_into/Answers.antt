@@ -1,0 +1,28 @@
+use native.Mathlib.Omega.{arith}
+use mathlib.Core.Path.{refl}
+use Rattle.sync_layer.proofs.Asking.{request_gone, request_last, refused_seats, refused_words, refused_statuses, done_number, done_seats, done_words, done_statuses}
+use borrow.Author.Rules.{rules}
+use Rattle.sync_layer.proofs.serving.synchronized_inputs_into.Goals as goal
+
+pub returns-then-no-ne0 : goal.returns-then-no-ne0
+returns-then-no-ne0 c =
+    let e = c.request_refusal-no.ensures in
+    let h = c.if-no-ne0.true in
+    (e, refused_seats _ _ _ _ _ _ e h, refused_words _ _ _ _ _ _ e h _, refused_statuses _ _ _ _ _ _ e h _)
+
+pub serve_seats-requires : goal.serve_seats-requires
+serve_seats-requires c =
+    let b = c.before in
+    let e = c.request_refusal-no.ensures in
+    let h = c.if-no-ne0.false in
+    let w = b.args.words.now in
+    (b.requires.0, b.requires.1, request_gone _ _ w _ _ _ e h, request_last _ _ w _ _ _ e h, b.requires.2, b.requires.3)
+
+pub returns : goal.returns
+returns c =
+    let q = c.args in
+    let e = c.request_refusal-no.ensures in
+    let h = c.if-no-ne0.false in
+    let s = c.serve_seats.ensures in
+    let w = q.words.now in
+    (done_number _ _ w _ _ _ e h w w, done_seats _ _ _ _ _ _ e h w _ s.0, done_words _ _ _ _ _ _ e h _ _ s.1, done_statuses _ _ _ _ _ _ e h _ _ s.2)

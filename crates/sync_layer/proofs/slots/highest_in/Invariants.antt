@@ -1,0 +1,12 @@
+use native.Mathlib.Omega.{arith}
+use borrow.Author.Rules.{rules}
+use Rattle.sync_layer.proofs.Slotting.{heights}
+use Prim.Native.Nat.{◌-◌}
+use Rattle.sync_layer.proofs.Slotting.{Highest}
+use Rattle.sync_layer.proofs.slots.highest_in.Given as goal
+
+abbrev pub invariant-loop-i : goal.invariant-loop-i
+invariant-loop-i l = Highest l.n l.slots l.low l.high l.highest l.i
+
+abbrev pub decreases-loop-i : goal.decreases-loop-i
+decreases-loop-i l = l.n - l.i
