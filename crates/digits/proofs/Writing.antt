@@ -36,6 +36,7 @@ length_digits base (suc k) n = simp (length-append, length_digits base k (n / ba
 pub digits_turn : (l : List ℕ) (at base left n : ℕ) → 0 < left
     → sets (set l (at + (left - 1)) (digit_byte (n % base))) at (last_digits base (left - 1) (n / base)) ≡ sets l at (last_digits base left n)
 unfolding last_digits
+digits_turn l at base zero n h = elim h [ ]
 digits_turn l at base (suc k) n h =
     let e : suc k - 1 ≡ k = omega arith in
     rw (e, sets_last (last_digits base k (n / base)) l at (digit_byte (n % base)), length_digits base k (n / base))

@@ -1,0 +1,14 @@
+use Rattle.digits.specs.Digits.{last_digits}
+use lib.Seq.{sets}
+use lib.ListN.{length}
+use mathlib.Core.Path.{◌≡◌}
+use Prim.Native.Nat.{◌≤◌}
+use Rattle.digits.proofs.Writing.{written}
+use borrow.Author.Rules.{rules}
+use Rattle.digits.proofs.put_digits.Goals as goal
+
+pub loop-left-preserved : goal.loop-left-preserved
+loop-left-preserved c = search (rules, written)
+
+pub returns : goal.returns
+returns c = search (rules, written)

@@ -1,0 +1,25 @@
+use Rattle.digits.specs.Digits.{number_of}
+use lib.ListN.{length, drop}
+use mathlib.Core.Path.{◌≡◌}
+use Prim.Native.Nat.{◌-◌, ◌≤◌, ◌<◌, ◌^◌}
+use Rattle.digits.proofs.Reading.{numbers, number_after}
+use borrow.Author.Rules.{rules}
+use Rattle.digits.proofs.read_number.Goals as goal
+
+pub returns-then-s-lt1 : goal.returns-then-s-lt1
+returns-then-s-lt1 c = search (rules, numbers)
+
+pub loop-i-init : goal.loop-i-init
+loop-i-init c = search (rules, numbers)
+
+pub returns-then-base-d : goal.returns-then-base-d
+returns-then-base-d c = search (rules, numbers)
+
+pub returns-then-next-ge4294967296 : goal.returns-then-next-ge4294967296
+returns-then-next-ge4294967296 c = search (rules, numbers)
+
+pub loop-i-preserved : goal.loop-i-preserved
+loop-i-preserved c = search (rules, numbers)
+
+pub returns : goal.returns
+returns c = search (rules, numbers)
