@@ -3,19 +3,15 @@ use Prim.Native.Nat.{ℕ, suc, ◌+◌, ◌-◌, ◌<◌, ◌≤◌}
 use native.Mathlib.Nat.{zero-add, add-zero}
 use native.Mathlib.Omega.{arith}
 use mathlib.Core.Path.{◌≡◌, refl, ap, ap₂, sym, ◌∙◌}
-use mathlib.Core.Logic.{⊎_elim}
 use mathlib.Core.List.{List, [], ◌∷◌, ◌++◌}
 use Prim.{absurd}
 use lib.ListN.{length, take, drop, get_or, set, length-append, length-drop, length-take}
 use lib.Seq.{paste, get_or-drop, drop-drop, length-paste}
-use types.Run.{OneOf}
-use denote.Enum.Declared.{tag_of}
 use Rattle.compression.specs.Layout.{masked, Reading, whole, half, short, after, records, restored, joined, lengths_of}
 use Rattle.compression.specs.Promise.{over, inputs_of, first_of}
 use Rattle.compression.specs.Inside.{base_at}
 use Rattle.compression.specs.declared.Record.{Record}
 use Rattle.compression.specs.declared.Record.TheVariants.{End, Half, Short, Whole}
-use Rattle.compression.specs.contracts.Record as S
 use Rattle.compression.proofs.Lists.{grown, grown_rest, paste_over, pasted_part, Laid, laid_none, laid_one, laid_all}
 use Rattle.compression.proofs.Masking.{length_masked}
 use Rattle.compression.proofs.Reading.{Next, reads_end, reads_half, reads_short, reads_whole}
@@ -26,13 +22,13 @@ pub lengths_restored : (base : List ℕ) (bodies : List (List ℕ)) → lengths_
 unfolding restored lengths_of
 lengths_restored base [] = refl
 lengths_restored base (body ∷ bodies) =
-    ap₂ (λ (n : ℕ) (l : List ℕ). n ∷ l) (length_masked base body) (lengths_restored _ bodies)
+    ap₂ (λ (n : ℕ) (l : List ℕ). n ∷ l) (length_masked base body) (lengths_restored (masked base body) bodies)
 
 pub joined_restored : (base : List ℕ) (bodies : List (List ℕ)) → length (joined (restored base bodies)) ≡ length (joined bodies)
 unfolding restored joined
 joined_restored base [] = refl
 joined_restored base (body ∷ bodies) =
-    simp length-append (ap₂ (λ (m n : ℕ). m + n) (length_masked base body) (joined_restored _ bodies))
+    simp length-append (ap₂ (λ (m n : ℕ). m + n) (length_masked base body) (joined_restored (masked base body) bodies))
 
 pub count_lengths : (inputs : List (List ℕ)) → length (lengths_of inputs) ≡ length inputs
 unfolding lengths_of
@@ -42,15 +38,15 @@ count_lengths (input ∷ inputs) = ap suc (count_lengths inputs)
 pub count_restored : (base : List ℕ) (bodies : List (List ℕ)) → length (restored base bodies) ≡ length bodies
 unfolding restored
 count_restored base [] = refl
-count_restored base (body ∷ bodies) = ap suc (count_restored _ bodies)
+count_restored base (body ∷ bodies) = ap suc (count_restored (masked base body) bodies)
 
 -- where no whole record stands in what is left of a whole packet, nothing is left
-pub ends : (q : List ℕ) (bodies : List (List ℕ)) (f : Record) → f ≡ first_of q → OneOf (0 ∷ 1 ∷ 2 ∷ []) (tag_of S.the_type f) → records q ≡ whole bodies
+pub ends : (q : List ℕ) (bodies : List (List ℕ)) (f : Record) → f ≡ first_of q → ((n : ℕ) → f ≡ Whole n → ⊥) → records q ≡ whole bodies
     → bodies ≡ []
 ends q bodies End e t w = let d = reads_end q (sym e) in cc
 ends q bodies Half e t w = let d = reads_half q (sym e) in absurd (let z : ◌≡◌ {A = ℕ} 0 1 = cc in omega arith)
 ends q bodies Short e t w = let d = reads_short q (sym e) in absurd (let z : ◌≡◌ {A = ℕ} 0 1 = cc in omega arith)
-ends q bodies (Whole n) e t w = ⊎_elim (λ h. absurd (omega arith)) (⊎_elim (λ h. absurd (omega arith)) (λ h. absurd (omega arith))) t
+ends q bodies (Whole n) e t w = absurd (t n refl)
 
 -- what is left of a whole packet is whole
 after_whole : (body : List ℕ) (r : Reading) (bodies : List (List ℕ)) → after body r ≡ whole bodies → r ≡ whole (inputs_of r)

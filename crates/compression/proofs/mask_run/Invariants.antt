@@ -1,0 +1,10 @@
+use Prim.Native.Nat.{◌-◌}
+use Rattle.compression.specs.Layout.{masked}
+use Rattle.compression.proofs.Lists.{Laid}
+use Rattle.compression.proofs.mask_run.Given as goal
+
+abbrev pub invariant-loop-i : goal.invariant-loop-i
+invariant-loop-i l = Laid l.initial.out l.at (masked l.base l.input) l.out l.i l.both
+
+abbrev pub decreases-loop-i : goal.decreases-loop-i
+decreases-loop-i l = l.both - l.i

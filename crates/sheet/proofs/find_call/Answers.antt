@@ -1,0 +1,49 @@
+use mathlib.Core.Bool.{false}
+use Rattle.sheet.proofs.Finding.{table, text_of, row_text, count_byte, find_stops, find_again}
+use Rattle.sheet.proofs.Fielding.{end_after, end_within}
+use Rattle.sheet.specs.Calls.{row, bytes_of}
+use mathlib.Core.Path.{refl}
+use Prim.Native.Nat.{◌*◌}
+use Rattle.sheet.specs.Calls.{calls, row_count, place_of}
+use lib.ListN.{drop}
+use mathlib.Core.Path.{◌≡◌}
+use Prim.Native.Nat.{◌+◌, ◌-◌, ◌≤◌}
+use Rattle.sheet.proofs.Finding.{find_ends, find_start}
+use native.Mathlib.Omega.{arith}
+use borrow.Author.Rules.{rules}
+use Rattle.sheet.proofs.find_call.Goals as goal
+
+pub slice_bounds-same-count : goal.slice_bounds-same-count
+slice_bounds-same-count c = search (rules, end_after, end_within)
+
+pub slice_bounds-same-start : goal.slice_bounds-same-start
+slice_bounds-same-start c = search (rules, end_after, end_within)
+
+pub slice_bounds-same-end : goal.slice_bounds-same-end
+unfolding table text_of row_text count_byte calls row bytes_of
+slice_bounds-same-end c =
+    let e = c in
+    let k = e.loop-k.k in
+    let h : k * 19 ≤ row_count * 19 = omega arith in
+    end_within false table (k * 19) e.run_end-end.result h e.run_end-end.ensures
+
+pub returns-then-same : goal.returns-then-same
+unfolding table text_of row_text count_byte calls row bytes_of
+returns-then-same c =
+    let s = c in
+    let e = s in
+    let l = e.loop-k in
+    find_stops e.args.name.now l.k (l.k * 19) e.run_end-end.result _ s.same.result e.loop-k-test.true refl e.run_end-end.ensures s.same.ensures c.if-same.true l.invariant.1
+
+pub loop-k-preserved : goal.loop-k-preserved
+unfolding table text_of row_text count_byte calls row bytes_of
+loop-k-preserved c =
+    let s = c in
+    let e = s in
+    let l = e.loop-k in (
+      omega arith,
+      find_again e.args.name.now l.k (l.k * 19) e.run_end-end.result _ s.same.result e.loop-k-test.true refl e.run_end-end.ensures s.same.ensures c.if-same.false l.invariant.1,
+    )
+
+pub returns : goal.returns
+returns c = search (rules, find_ends, find_start)
