@@ -1,6 +1,6 @@
 -- With all entries in -1000..1000 the answer is the truncation of (R - L) / 60; where 60 divides R - L and R differs from L it may be one nearer zero.
 -- The sums are exact in binary32. Each quotient, the difference and the half are rounded with a small error, together less than 1 / 60. Assumes nothing.
-use Rattle.std.proofs.Common.{◌≡◌, ℕ, zero, suc, ◌+◌, ◌-◌, ◌*◌, ◌/◌, ◌%◌, ◌^◌, ◌<◌, ◌≤◌, Bool, true, false, not, ◌⊎◌, List, get_or, ℤ, pos, negsuc, ◌+ℤ◌, ◌-ℤ◌, nat_abs, sym, ap, ◌∙◌, subst, inl, inr, ⊎_elim, zero-le, le_refl, add-zero, zero-lt-suc, add-mul, zero-add, zero-mul, arith, lit<, lit≤, w32, le-ltb, lt-ltb}
+use Rattle.std.proofs.Common.{◌≡◌, ℕ, zero, suc, ◌+◌, ◌-◌, ◌*◌, ◌/◌, ◌%◌, ◌^◌, ◌<◌, ◌≤◌, Bool, true, false, not, List, get_or, ℤ, pos, negsuc, ◌+ℤ◌, ◌-ℤ◌, nat_abs, sym, ap, ◌∙◌, subst, inl, inr, ⊎_elim, zero-le, le_refl, add-zero, zero-lt-suc, add-mul, zero-add, zero-mul, arith, lit<, lit≤, w32, le-ltb, lt-ltb}
 use lib.IntN.{sub_ℕ}
 use mir.Facts.{to_z_pos, to_z-neg}
 use lib.Ieee.{Float, fin, binary32, div, sub}

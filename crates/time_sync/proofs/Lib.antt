@@ -11,5 +11,3 @@ pub mod Bounds
 pub mod Sixtieth
 pub mod Exact
 pub mod Marked
-pub mod Element
-pub mod Lent

@@ -35,7 +35,7 @@ module _ (u e : ℕ) (U : u ≡ 8192 * e) (E : 0 < e) where
         let s = split d in
         ⊎_elim
         (λ w. inr (below (d / 60) w.0 (omega (arith, w.0))))
-        (λ w. inl (div-eq_of_lt-le {k = d / 60} u {m = g} w.0 (rw (more (d / 60)) (omega arith))))
+        (λ w. inl (div-eq_of_lt-le {k = d / 60} u {m = g} w.0 (rw (more (d / 60)) (omega (arith, w.0)))))
         (split_ltb g (d / 60 * u))
       where
         below : (q : ℕ) → g < q * u → q * u ≤ g + 5 * e → (0 < q) × (g / u ≡ q - 1)

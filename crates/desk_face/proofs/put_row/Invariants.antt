@@ -1,0 +1,11 @@
+use Prim.Native.Nat.{◌-◌}
+use lib.ListN.{get_or}
+use borrow.Author.Rules.{rules}
+use Rattle.desk.proofs.Loops.{Written, writing}
+use Rattle.desk_face.proofs.put_row.Given as goal
+
+abbrev pub invariant-loop-i : goal.invariant-loop-i
+invariant-loop-i l = Written l.n (λ s. get_or l.row s 0) l.initial.out l.out l.i
+
+abbrev pub decreases-loop-i : goal.decreases-loop-i
+decreases-loop-i l = l.n - l.i
