@@ -1,5 +1,5 @@
 -- The wrap and the rotation, over 2^32, and one turn of a frame's step. Assumes nothing.
-use Rattle.std.proofs.Common.{◌≡◌, ℕ, suc, ◌+◌, ◌-◌, ◌*◌, ◌/◌, ◌%◌, ◌^◌, ◌<◌, ◌≤◌, List, [], length, get_or, drop, ℤ, pos, negsuc, ◌+ℤ◌, refl, ap, ⊎_elim, add-one, arith, drop_of_length-le, drop-cons}
+use Rattle.std.proofs.Common.{◌≡◌, ℕ, suc, ◌+◌, ◌-◌, ◌*◌, ◌/◌, ◌%◌, ◌^◌, ◌<◌, ◌≤◌, List, [], length, get_or, drop, pos, negsuc, ◌+ℤ◌, refl, ap, ⊎_elim, add-one, arith, drop_of_length-le, drop-cons}
 use Rattle.frame_info.proofs.Split.{split_ltb}
 use Rattle.console.specs.declared.Console.{Console}
 use Rattle.console.specs.Step.{wrapped, moved, extended, rotated, sealed, head_after, seal_after, kind_of, step_of}

@@ -111,6 +111,14 @@ fn main(rt: HostRuntime) {
     let mut args = field_buffer();
     let mut out = large_buffer();
     let world = cues_world::start();
-    let failed = answer_all(rt.stdin(), rt.stdout(), &mut bytes, &mut line, &mut args, world, &mut out);
+    let failed = answer_all(
+        rt.stdin(),
+        rt.stdout(),
+        &mut bytes,
+        &mut line,
+        &mut args,
+        world,
+        &mut out,
+    );
     let _ = tell_end(&rt, failed);
 }

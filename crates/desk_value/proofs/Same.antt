@@ -1,5 +1,5 @@
 -- Any run of calls on a desk by value leads to what the same run leads to on lent lists. Assumes nothing.
-use Prim.Native.Nat.{ℕ, ◌-◌}
+use Prim.Native.Nat.{ℕ}
 use mathlib.Core.Path.{◌≡◌, refl, ◌∙◌, ap}
 use mathlib.Core.List.{List, [], ◌∷◌}
 use Rattle.frame_info.specs.Word.{predicted}

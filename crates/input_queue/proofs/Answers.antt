@@ -6,7 +6,6 @@ use mathlib.Core.Bool.{Bool, true, false, not, true≢false}
 use Prim.{absurd}
 use mathlib.Core.Logic.{⊎_elim}
 use mathlib.Core.List.{List}
-use lib.Dec.{eqb}
 use lib.IntN.{ℤ}
 use borrow.Author.Tests.{eq-eqb, ne_eqb, lt-ltb, le-ltb, not-true, not-false}
 use Rattle.frame_info.proofs.Split.{split_eqb, split_ltb}

@@ -1,7 +1,7 @@
 -- The cases of each definition, as the code meets them: from what the tests say to what is answered. Assumes nothing.
 use Prim.Native.Nat.{ℕ, ◌+◌, ◌-◌, min, ◌<◌, ◌≤◌}
 use native.Mathlib.Omega.{arith}
-use mathlib.Core.Path.{◌≡◌, ap}
+use mathlib.Core.Path.{◌≡◌}
 use mathlib.Core.Bool.{Bool, true, false, not}
 use mathlib.Core.Logic.{⊎_elim}
 use lib.Dec.{ltb, leb, eqb}

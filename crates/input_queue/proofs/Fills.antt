@@ -4,7 +4,7 @@ use native.Mathlib.Omega.{arith}
 use mathlib.Core.Path.{◌≡◌, refl}
 use mathlib.Core.Logic.{⊎_elim}
 use mathlib.Core.List.{List}
-use lib.ListN.{length, set, length-set}
+use lib.ListN.{length, length-set}
 use Rattle.frame_info.specs.Frame.{last_count, max_delay}
 use Rattle.frame_info.proofs.Split.{split_eqb, split_bool}
 use Rattle.input_queue.specs.declared.QueueState.{QueueState}

@@ -1,13 +1,13 @@
 -- What a call presumes of a queue is given by a setup and kept by every call. Assumes nothing.
 use Prim.Native.Nat.{ℕ, zero, suc, ◌+◌, ◌-◌, ◌<◌, ◌≤◌}
 use native.Mathlib.Omega.{arith}
-use mathlib.Core.Path.{◌≡◌, refl, ap, sym, ◌∙◌}
+use mathlib.Core.Path.{◌≡◌, refl, sym, ◌∙◌}
 use mathlib.Core.Bool.{true, false}
 use mathlib.Core.Logic.{◌⊎◌, inl, inr, ⊎_elim}
 use Prim.{absurd}
 use mathlib.Core.List.{List, [], ◌∷◌}
-use lib.ListN.{length, set, length-set}
-use lib.Dec.{ltb, leb, eqb}
+use lib.ListN.{length, length-set}
+use lib.Dec.{ltb}
 use lib.IntN.{ℤ}
 use borrow.Author.Tests.{ltb-false}
 use Rattle.frame_info.proofs.Split.{split_eqb, split_ltb, split_leb, split_bool}
@@ -16,7 +16,7 @@ use Rattle.frame_info.specs.Word.{predicted}
 use Rattle.frame_info.specs.declared.PlayerInput.{PlayerInput}
 use Rattle.input_queue.specs.declared.QueueState.{QueueState}
 use Rattle.input_queue.specs.Queue.{fresh_state, newest, put, fill, used, add, asked, predicting_asked, reset, capped, oldest_after, discard, delayed}
-use Rattle.input_queue.specs.Ring.{queue_length, word_at, put_word, fill_words, add_words}
+use Rattle.input_queue.specs.Ring.{queue_length, word_at, fill_words, add_words}
 use Rattle.input_queue.specs.Calls as calls
 use Rattle.input_queue.specs.Whole.{Sane, Whole}
 use Rattle.input_queue.specs.Runs as runs

@@ -8,7 +8,7 @@ use Prim.{absurd}
 use mathlib.Core.List.{List, [], ◌∷◌, ◌++◌, append_assoc, append-nil}
 use lib.ListN.{length, get_or, set, replicate, length-set, length-append, length-replicate, get_or-append}
 use lib.Seq.{get_or-set_same, get_or-set_other, get_or-append_seam}
-use lib.Dec.{ltb, leb, eqb}
+use lib.Dec.{ltb}
 use lib.IntN.{ℤ, pos}
 use borrow.Author.Tests.{ne_eqb, lt-ltb, le-ltb, le-leb, lt-leb}
 use Rattle.frame_info.proofs.Split.{split_eqb, split_ltb, split_leb, split_bool}
@@ -16,7 +16,7 @@ use Rattle.frame_info.specs.Frame.{count_of}
 use Rattle.frame_info.specs.Word.{player_input}
 use Rattle.frame_info.specs.declared.PlayerInput.{PlayerInput}
 use Rattle.input_queue.specs.declared.QueueState.{QueueState}
-use Rattle.input_queue.specs.Queue.{newest, put, fill, used, add, asked, reset, discard, delayed}
+use Rattle.input_queue.specs.Queue.{newest, fill, used, add, asked, reset, discard, delayed}
 use Rattle.input_queue.specs.Ring.{spot, word_at, put_word, fill_words, add_words}
 use Rattle.input_queue.specs.Calls as calls
 use Rattle.input_queue.specs.Whole.{Whole}

@@ -3,4 +3,3 @@
 // The list is in specs/Marked.antt and its proof in proofs/Claims.antt. Each example is of the
 // definitions that the promises of the calls cite, so it says what the calls answer.
 #![tactic(auto)]
-

@@ -8,7 +8,7 @@ use mathlib.Core.Logic.{⊎_elim}
 use Prim.{absurd}
 use mathlib.Core.List.{List, [], ◌∷◌}
 use lib.ListN.{length}
-use lib.Dec.{eqb, ltb}
+use lib.Dec.{eqb}
 use lib.IntN.{ℤ}
 use borrow.Author.Tests.{eq-eqb, ne_eqb, lt-ltb, le-ltb, le-leb, lt-leb}
 use Rattle.frame_info.proofs.Split.{split_eqb, split_ltb, split_leb}

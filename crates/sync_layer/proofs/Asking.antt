@@ -19,7 +19,7 @@ use Rattle.frame_info.specs.Status.{status_disconnected}
 use Rattle.input_queue.specs.declared.QueueState.{QueueState}
 use Rattle.input_queue.specs.declared.Asked.{Asked}
 use Rattle.input_queue.specs.Calls as queue
-use Rattle.input_queue.specs.Queue.{asking, asked}
+use Rattle.input_queue.specs.Queue.{asking}
 use Rattle.input_queue.specs.Ring.{word_at}
 use Rattle.input_queue.specs.Whole as queues
 use Rattle.sync_layer.specs.declared.LayerState.{LayerState}

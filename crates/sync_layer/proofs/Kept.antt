@@ -1,13 +1,13 @@
 -- What a call presumes of a layer is given by a setup and kept by every call, refused or not. Assumes nothing.
 use Prim.Native.Nat.{ℕ, zero, suc, ◌+◌, ◌-◌, ◌<◌, ◌≤◌}
 use native.Mathlib.Omega.{arith}
-use mathlib.Core.Path.{◌≡◌, refl, ap, sym, ◌∙◌}
+use mathlib.Core.Path.{◌≡◌, refl, sym, ◌∙◌}
 use mathlib.Core.Bool.{Bool, true, false, true≢false}
-use mathlib.Core.Logic.{◌≢◌, ⊎_elim}
+use mathlib.Core.Logic.{⊎_elim}
 use Prim.{absurd}
 use mathlib.Core.List.{List, [], ◌∷◌}
 use lib.ListN.{length, get_or, length-set}
-use lib.Dec.{eqb, ltb, leb}
+use lib.Dec.{eqb}
 use lib.IntN.{ℤ}
 use borrow.Author.Tests.{le-leb}
 use Rattle.frame_info.specs.Choice.{pick}
@@ -17,7 +17,7 @@ use Rattle.frame_info.specs.Word.{predicted}
 use Rattle.frame_info.specs.declared.PlayerInput.{PlayerInput}
 use Rattle.console.specs.declared.Console.{Console}
 use Rattle.input_queue.specs.declared.QueueState.{QueueState}
-use Rattle.input_queue.specs.Queue.{fresh_state, reset, discard, asked}
+use Rattle.input_queue.specs.Queue.{fresh_state, reset, discard}
 use Rattle.input_queue.specs.Ring.{word_at}
 use Rattle.input_queue.specs.Calls as queue
 use Rattle.input_queue.specs.Whole.{Sane}

@@ -5,7 +5,7 @@ use mathlib.Core.Path.{◌≡◌, refl}
 use mathlib.Core.Logic.{◌≢◌, ⊎_elim}
 use Prim.{absurd}
 use mathlib.Core.List.{List}
-use lib.ListN.{length, get_or, set, length-set}
+use lib.ListN.{length, get_or, length-set}
 use lib.Seq.{get_or-set_same, get_or-set_other}
 use Rattle.frame_info.proofs.Split.{split_eqb}
 use Rattle.sync_layer.specs.Lists.{write_row}

@@ -5,7 +5,6 @@ use Rattle.frame_info.specs.declared.PlayerInput.{PlayerInput}
 use Rattle.console.specs.declared.Console.{Console}
 use Rattle.input_queue.specs.Ring.{queue_length}
 use Rattle.sync_layer.specs.declared.LayerState.{LayerState}
-use Rattle.sync_layer.specs.declared.Placed.{Placed}
 use Rattle.sync_layer.specs.Seats.{max_seats, seat_words}
 use Rattle.sync_layer.specs.Slots.{max_limit, slot_words, save_slot}
 use Rattle.sync_layer.specs.Calls as calls

@@ -1,4 +1,4 @@
-use Rattle.std.proofs.Common.{◌∙◌, rules}
+use Rattle.std.proofs.Common.{◌∙◌}
 use Rattle.console.proofs.Laws.{moves}
 use Rattle.console.proofs.move_head.Goals as goal
 

@@ -1,6 +1,5 @@
 use Rattle.console.specs.Step.{sealed}
 use Rattle.console.proofs.Laws.{turns}
-use Rattle.std.proofs.Common.{rules}
 use Rattle.console.proofs.seal_word.Goals as goal
 
 pub returns : goal.returns

@@ -1,7 +1,6 @@
 use Rattle.cues_desk.proofs.Keeping.{log_count}
 use native.Mathlib.Omega.{arith}
 use lib.ListN.{length-take}
-use borrow.Author.Rules.{rules}
 use Rattle.cues_desk.proofs.log_in.Goals as goal
 
 pub overflow_sub-size : goal.overflow_sub-size

@@ -1,5 +1,3 @@
-use native.Mathlib.Omega.{arith}
-use lib.ListN.{length-take}
 use Rattle.cues_desk.proofs.Keeping.{keeping}
 use borrow.Author.Rules.{rules}
 use Rattle.cues_desk.proofs.open.Goals as goal

@@ -1,7 +1,6 @@
 use Prim.Native.Nat.{◌-◌, ◌≤◌}
 use mathlib.Core.Path.{◌≡◌}
 use lib.ListN.{length}
-use borrow.Author.Rules.{rules}
 use Rattle.cues_desk.proofs.read_delays.Given as goal
 
 abbrev pub invariant-loop-n : goal.invariant-loop-n

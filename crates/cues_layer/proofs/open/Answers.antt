@@ -1,5 +1,3 @@
-use lib.ListN.{length-take}
-use native.Mathlib.Omega.{arith}
 use Rattle.cues_layer.proofs.Keeping.{keeping}
 use borrow.Author.Rules.{rules}
 use Rattle.cues_layer.proofs.open.Goals as goal

@@ -1,6 +1,5 @@
 use borrow.Author.Tests.{ne_eqb}
 use Rattle.cues_queue.specs.Queue.{queue_after, text_after}
-use borrow.Author.Rules.{rules}
 use Rattle.cues_queue.proofs.make.Goals as goal
 
 pub returns-then-call-eq-OPEN : goal.returns-then-call-eq-OPEN

@@ -2,7 +2,6 @@ use native.Mathlib.Omega.{arith}
 use mir.Facts.{to_z-of_z}
 use Rattle.cues_text.specs.Text.{frame_value, number_value}
 use Rattle.cues_text.proofs.Texts.{text_end, text_list}
-use borrow.Author.Rules.{rules}
 use Rattle.cues_text.proofs.put_first_value.Goals as goal
 
 pub returns : goal.returns

@@ -3,7 +3,6 @@ use mir.Facts.{to_z-of_z}
 use Rattle.digits.specs.Digits.{signed_text}
 use Rattle.digits.proofs.Bounds.{signed_short}
 use Rattle.cues_text.proofs.Texts.{spaced_end, spaced_list}
-use borrow.Author.Rules.{rules}
 use Rattle.cues_text.proofs.put_frame_value.Goals as goal
 
 pub returns : goal.returns

@@ -1,6 +1,5 @@
 use native.Mathlib.Omega.{arith}
 use Rattle.digits.proofs.Bounds.{decimal_short}
-use borrow.Author.Rules.{rules}
 use Rattle.cues_text.proofs.put_number.Goals as goal
 
 pub returns : goal.returns

@@ -2,7 +2,6 @@ use native.Mathlib.Omega.{arith}
 use Rattle.digits.specs.Digits.{decimal_text}
 use Rattle.digits.proofs.Bounds.{decimal_short}
 use Rattle.cues_text.proofs.Texts.{spaced_end, spaced_list}
-use borrow.Author.Rules.{rules}
 use Rattle.cues_text.proofs.put_number_value.Goals as goal
 
 pub returns : goal.returns

@@ -1,7 +1,6 @@
 use native.Mathlib.Omega.{arith}
 use Rattle.cues_text.specs.Text.{word_value, head_value}
 use Rattle.cues_text.proofs.Texts.{text_end, text_list}
-use borrow.Author.Rules.{rules}
 use Rattle.cues_text.proofs.put_state_value.Goals as goal
 
 pub returns : goal.returns

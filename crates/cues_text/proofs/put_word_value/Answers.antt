@@ -2,7 +2,6 @@ use native.Mathlib.Omega.{arith}
 use Rattle.digits.specs.Digits.{word_text}
 use Rattle.digits.proofs.Bounds.{word_eight}
 use Rattle.cues_text.proofs.Texts.{spaced_list}
-use borrow.Author.Rules.{rules}
 use Rattle.cues_text.proofs.put_word_value.Goals as goal
 
 pub returns : goal.returns

@@ -2,7 +2,6 @@ use native.Mathlib.Omega.{arith}
 use mir.Facts.{to_z-of_z}
 use Rattle.cues_text.specs.Text.{fills_value}
 use Rattle.cues_text.proofs.Texts.{refused_end, refused_list, done_end, done_list}
-use borrow.Author.Rules.{rules}
 use Rattle.cues_text.proofs.tell_fills.Goals as goal
 
 pub returns-then-number-ne0 : goal.returns-then-number-ne0

@@ -1,6 +1,5 @@
 use native.Mathlib.Omega.{arith}
 use Rattle.cues_text.proofs.Texts.{alone_end, alone_list}
-use borrow.Author.Rules.{rules}
 use Rattle.cues_text.proofs.tell_number.Goals as goal
 
 pub returns : goal.returns

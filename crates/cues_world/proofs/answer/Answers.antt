@@ -1,7 +1,6 @@
 use native.Mathlib.Omega.{arith}
-use Rattle.cues_world.proofs.Keeping.{args_same, fill_kept, fill_end, idle_told, made_told}
+use Rattle.cues_world.proofs.Keeping.{args_same}
 use Rattle.sheet.proofs.Counts.{count_few}
-use borrow.Author.Rules.{rules}
 use Rattle.cues_world.proofs.answer.Goals as goal
 
 pub make-requires : goal.make-requires

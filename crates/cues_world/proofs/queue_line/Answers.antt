@@ -1,6 +1,5 @@
 use native.Mathlib.Omega.{arith}
 use Rattle.cues_world.proofs.Keeping.{queue_kept, queue_end}
-use borrow.Author.Rules.{rules}
 use Rattle.cues_world.proofs.queue_line.Goals as goal
 
 pub returns : goal.returns

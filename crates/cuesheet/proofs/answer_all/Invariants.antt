@@ -1,7 +1,4 @@
-use lib.ListN.{length-take}
-use native.Mathlib.Omega.{arith}
 use Rattle.cuesheet.proofs.Keeping.{Fed}
-use borrow.Author.Rules.{rules}
 use Rattle.cuesheet.proofs.answer_all.Given as goal
 
 abbrev pub invariant-loop-turns : goal.invariant-loop-turns

@@ -1,6 +1,5 @@
-use Rattle.desk_face.proofs.Face.{at_whole, at_room, advance_refused, advance_done}
+use Rattle.desk_face.proofs.Face.{advance_refused, advance_done}
 use mathlib.Core.Path.{refl}
-use borrow.Author.Rules.{rules}
 use Rattle.desk_face.proofs.advance.Goals as goal
 
 pub returns-then-a-ne0 : goal.returns-then-a-ne0

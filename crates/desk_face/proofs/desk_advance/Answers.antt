@@ -1,7 +1,6 @@
 use Rattle.std.proofs.Common.{ap}
 use mathlib.Core.Bool.{not}
-use Rattle.desk_face.proofs.Face.{settle_said_long, settle_state_long, rows_reach, statuses_reach, rows_at, first_in, both, short_first, short_then, enough_then}
-use borrow.Author.Rules.{rules}
+use Rattle.desk_face.proofs.Face.{settle_said_long, settle_state_long, rows_reach, statuses_reach, rows_at, first_in, both, short_then, enough_then}
 use Rattle.desk_face.proofs.desk_advance.Goals as goal
 
 pub bounds-state-0 : goal.bounds-state-0

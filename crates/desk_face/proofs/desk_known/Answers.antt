@@ -1,6 +1,6 @@
 use Rattle.std.proofs.Common.{ap}
 use mathlib.Core.Bool.{not}
-use Rattle.desk_face.proofs.Face.{known_said_long, known_state_long, known_done, counted, short, enough, held, at_seated}
+use Rattle.desk_face.proofs.Face.{known_said_long, known_state_long, known_done, counted, enough}
 use borrow.Author.Rules.{rules}
 use Rattle.desk_face.proofs.desk_known.Goals as goal
 

@@ -1,6 +1,6 @@
 use Rattle.std.proofs.Common.{ap}
 use mathlib.Core.Bool.{not}
-use Rattle.desk_face.proofs.Face.{look_said_long, look_slots_long, look_state_long, log_refused, log_done, short, enough, held, at_seated}
+use Rattle.desk_face.proofs.Face.{look_said_long, look_slots_long, look_state_long, log_refused, log_done, enough, held, at_seated}
 use borrow.Author.Rules.{rules}
 use Rattle.desk_face.proofs.desk_log.Goals as goal
 

@@ -1,8 +1,7 @@
 use Rattle.std.proofs.Common.{ap}
 use mathlib.Core.Bool.{not}
 use mathlib.Core.Path.{refl}
-use Rattle.desk_face.proofs.Face.{settle_said_long, settle_state_long, settle_done, short, enough, held, at_whole}
-use borrow.Author.Rules.{rules}
+use Rattle.desk_face.proofs.Face.{settle_said_long, settle_state_long, settle_done, enough}
 use Rattle.desk_face.proofs.desk_settle.Goals as goal
 
 pub desk_at-before-requires : goal.desk_at-before-requires

@@ -1,7 +1,6 @@
 use Rattle.std.proofs.Common.{ap}
 use mathlib.Core.Bool.{not}
-use Rattle.desk_face.proofs.Face.{setup_slots_long, setup_seats_long, setup_state_long, setup_done, short, enough}
-use borrow.Author.Rules.{rules}
+use Rattle.desk_face.proofs.Face.{setup_slots_long, setup_seats_long, setup_state_long, setup_done, enough}
 use Rattle.desk_face.proofs.desk_setup.Goals as goal
 
 pub setup-o-requires : goal.setup-o-requires

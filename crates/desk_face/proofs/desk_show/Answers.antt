@@ -1,6 +1,6 @@
 use Rattle.std.proofs.Common.{ap}
 use mathlib.Core.Bool.{not}
-use Rattle.desk_face.proofs.Face.{look_said_long, look_slots_long, look_state_long, row_reaches, row_at, first_in, both, framed, short_first, short_then, enough_then}
+use Rattle.desk_face.proofs.Face.{look_said_long, look_slots_long, look_state_long, row_reaches, row_at, first_in, both, framed, short_then, enough_then}
 use borrow.Author.Rules.{rules}
 use Rattle.desk_face.proofs.desk_show.Goals as goal
 

@@ -1,6 +1,6 @@
 use Rattle.std.proofs.Common.{ap}
 use mathlib.Core.Bool.{not}
-use Rattle.desk_face.proofs.Face.{take_said_long, take_words_long, take_state_long, take_refused, take_done, counted, short, enough, held, at_seated}
+use Rattle.desk_face.proofs.Face.{take_said_long, take_words_long, take_state_long, take_refused, take_done, counted, enough, held, at_seated}
 use borrow.Author.Rules.{rules}
 use Rattle.desk_face.proofs.desk_take.Goals as goal
 

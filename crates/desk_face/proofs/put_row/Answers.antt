@@ -1,7 +1,5 @@
-use Prim.Native.Nat.{◌-◌}
-use lib.ListN.{get_or}
 use borrow.Author.Rules.{rules}
-use Rattle.desk.proofs.Loops.{Written, writing}
+use Rattle.desk.proofs.Loops.{writing}
 use Rattle.desk_face.proofs.put_row.Goals as goal
 
 pub loop-i-init : goal.loop-i-init

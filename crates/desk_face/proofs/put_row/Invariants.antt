@@ -1,7 +1,6 @@
 use Prim.Native.Nat.{◌-◌}
 use lib.ListN.{get_or}
-use borrow.Author.Rules.{rules}
-use Rattle.desk.proofs.Loops.{Written, writing}
+use Rattle.desk.proofs.Loops.{Written}
 use Rattle.desk_face.proofs.put_row.Given as goal
 
 abbrev pub invariant-loop-i : goal.invariant-loop-i

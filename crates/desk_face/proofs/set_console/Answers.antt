@@ -1,5 +1,3 @@
-use native.Mathlib.Omega.{arith}
-use lib.ListN.{length-set}
 use Rattle.desk_face.proofs.Face.{lists}
 use borrow.Author.Rules.{rules}
 use Rattle.desk_face.proofs.set_console.Goals as goal

@@ -1,5 +1,5 @@
 use mir.Facts.{to_z-of_z}
-use Rattle.desk_face.proofs.Face.{at_seated, at_room, zeros_long, show_refused, show_done}
+use Rattle.desk_face.proofs.Face.{at_seated, zeros_long, show_refused, show_done}
 use mathlib.Core.Path.{refl}
 use borrow.Author.Rules.{rules}
 use Rattle.desk_face.proofs.show.Goals as goal

@@ -1,6 +1,4 @@
-use Rattle.std.proofs.Common.{◌≡◌, ◌-◌, ◌≤◌, length, arith, rules}
-use Rattle.desk_value.specs.Value as held
-use Rattle.desk_value_face.specs.Said.{said_words}
+use Rattle.std.proofs.Common.{rules}
 use Rattle.desk_value_face.proofs.Keeping.{open_kept}
 use Rattle.desk_value_face.proofs.night.Goals as goal
 

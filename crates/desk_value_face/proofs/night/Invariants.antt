@@ -1,7 +1,6 @@
-use Rattle.std.proofs.Common.{◌≡◌, ◌-◌, ◌≤◌, length, arith, rules}
+use Rattle.std.proofs.Common.{◌≡◌, ◌-◌, ◌≤◌, length}
 use Rattle.desk_value.specs.Value as held
 use Rattle.desk_value_face.specs.Said.{said_words}
-use Rattle.desk_value_face.proofs.Keeping.{open_kept}
 use Rattle.desk_value_face.proofs.night.Given as goal
 
 abbrev pub invariant-loop-frame : goal.invariant-loop-frame

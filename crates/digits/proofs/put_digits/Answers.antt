@@ -1,8 +1,3 @@
-use Rattle.digits.specs.Digits.{last_digits}
-use lib.Seq.{sets}
-use lib.ListN.{length}
-use mathlib.Core.Path.{◌≡◌}
-use Prim.Native.Nat.{◌≤◌}
 use Rattle.digits.proofs.Writing.{written}
 use borrow.Author.Rules.{rules}
 use Rattle.digits.proofs.put_digits.Goals as goal

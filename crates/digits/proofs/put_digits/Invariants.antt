@@ -3,8 +3,6 @@ use lib.Seq.{sets}
 use lib.ListN.{length}
 use mathlib.Core.Path.{◌≡◌}
 use Prim.Native.Nat.{◌≤◌}
-use Rattle.digits.proofs.Writing.{written}
-use borrow.Author.Rules.{rules}
 use Rattle.digits.proofs.put_digits.Given as goal
 
 abbrev pub invariant-loop-left : goal.invariant-loop-left

@@ -2,8 +2,6 @@ use lib.Seq.{sets}
 use lib.ListN.{length, drop}
 use mathlib.Core.Path.{◌≡◌}
 use Prim.Native.Nat.{◌+◌, ◌-◌, ◌≤◌}
-use Rattle.digits.proofs.Writing.{written}
-use borrow.Author.Rules.{rules}
 use Rattle.digits.proofs.put_text.Given as goal
 
 abbrev pub invariant-loop-i : goal.invariant-loop-i

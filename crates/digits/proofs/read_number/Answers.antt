@@ -1,8 +1,4 @@
-use Rattle.digits.specs.Digits.{number_of}
-use lib.ListN.{length, drop}
-use mathlib.Core.Path.{◌≡◌}
-use Prim.Native.Nat.{◌-◌, ◌≤◌, ◌<◌, ◌^◌}
-use Rattle.digits.proofs.Reading.{numbers, number_after}
+use Rattle.digits.proofs.Reading.{numbers}
 use borrow.Author.Rules.{rules}
 use Rattle.digits.proofs.read_number.Goals as goal
 

@@ -2,8 +2,7 @@ use Rattle.digits.specs.Digits.{number_of}
 use lib.ListN.{length, drop}
 use mathlib.Core.Path.{◌≡◌}
 use Prim.Native.Nat.{◌-◌, ◌≤◌, ◌<◌, ◌^◌}
-use Rattle.digits.proofs.Reading.{numbers, number_after}
-use borrow.Author.Rules.{rules}
+use Rattle.digits.proofs.Reading.{number_after}
 use Rattle.digits.proofs.read_number.Given as goal
 
 abbrev pub invariant-loop-i : goal.invariant-loop-i

@@ -1,6 +1,3 @@
-use Rattle.digits.specs.Digits.{width_of}
-use mathlib.Core.Path.{◌≡◌}
-use Prim.Native.Nat.{◌+◌, ◌≤◌}
 use Rattle.digits.proofs.Writing.{written}
 use borrow.Author.Rules.{rules}
 use Rattle.digits.proofs.width_of.Goals as goal

@@ -1,8 +1,6 @@
 use Rattle.digits.specs.Digits.{width_of}
 use mathlib.Core.Path.{◌≡◌}
 use Prim.Native.Nat.{◌+◌, ◌≤◌}
-use Rattle.digits.proofs.Writing.{written}
-use borrow.Author.Rules.{rules}
 use Rattle.digits.proofs.width_of.Given as goal
 
 abbrev pub invariant-loop-rest : goal.invariant-loop-rest

@@ -1,7 +1,3 @@
-use Rattle.digits.specs.Digits.{only_digits}
-use lib.ListN.{length, drop}
-use mathlib.Core.Path.{◌≡◌}
-use Prim.Native.Nat.{◌-◌, ◌≤◌}
 use Rattle.sheet.proofs.Holding.{holding}
 use borrow.Author.Rules.{rules}
 use Rattle.sheet.proofs.all_hex.Goals as goal

@@ -2,8 +2,6 @@ use Rattle.digits.specs.Digits.{only_digits}
 use lib.ListN.{length, drop}
 use mathlib.Core.Path.{◌≡◌}
 use Prim.Native.Nat.{◌-◌, ◌≤◌}
-use Rattle.sheet.proofs.Holding.{holding}
-use borrow.Author.Rules.{rules}
 use Rattle.sheet.proofs.all_hex.Given as goal
 
 abbrev pub invariant-loop-i : goal.invariant-loop-i

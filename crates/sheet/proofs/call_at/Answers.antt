@@ -1,6 +1,5 @@
 use Rattle.sheet.proofs.Finding.{table, numbers, text_of, row_text, count_byte, call_row}
 use Rattle.sheet.specs.Calls.{calls, row, bytes_of}
-use borrow.Author.Rules.{rules}
 use Rattle.sheet.proofs.call_at.Goals as goal
 
 pub returns : goal.returns

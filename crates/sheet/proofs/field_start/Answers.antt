@@ -1,6 +1,3 @@
-use Rattle.sheet.specs.Steps.{field_start}
-use mathlib.Core.Path.{◌≡◌}
-use Prim.Native.Nat.{◌-◌, ◌≤◌}
 use Rattle.sheet.proofs.Decoding.{fielded}
 use borrow.Author.Rules.{rules}
 use Rattle.sheet.proofs.field_start.Goals as goal

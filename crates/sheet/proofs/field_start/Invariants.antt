@@ -1,8 +1,6 @@
 use Rattle.sheet.specs.Steps.{field_start}
 use mathlib.Core.Path.{◌≡◌}
 use Prim.Native.Nat.{◌-◌, ◌≤◌}
-use Rattle.sheet.proofs.Decoding.{fielded}
-use borrow.Author.Rules.{rules}
 use Rattle.sheet.proofs.field_start.Given as goal
 
 abbrev pub invariant-loop-k : goal.invariant-loop-k

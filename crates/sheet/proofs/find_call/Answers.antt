@@ -4,10 +4,8 @@ use Rattle.sheet.proofs.Fielding.{end_after, end_within}
 use Rattle.sheet.specs.Calls.{row, bytes_of}
 use mathlib.Core.Path.{refl}
 use Prim.Native.Nat.{◌*◌}
-use Rattle.sheet.specs.Calls.{calls, row_count, place_of}
-use lib.ListN.{drop}
-use mathlib.Core.Path.{◌≡◌}
-use Prim.Native.Nat.{◌+◌, ◌-◌, ◌≤◌}
+use Rattle.sheet.specs.Calls.{calls, row_count}
+use Prim.Native.Nat.{◌≤◌}
 use Rattle.sheet.proofs.Finding.{find_ends, find_start}
 use native.Mathlib.Omega.{arith}
 use borrow.Author.Rules.{rules}

@@ -1,10 +1,3 @@
-use Rattle.sheet.specs.Bytes.{pairs_of}
-use Rattle.digits.specs.Digits.{only_digits}
-use lib.ListN.{length, drop}
-use lib.Seq.{sets}
-use mathlib.Core.Bool.{true}
-use mathlib.Core.Path.{◌≡◌}
-use Prim.Native.Nat.{◌-◌, ◌*◌, ◌/◌, ◌≤◌}
 use Rattle.sheet.proofs.Decoding.{pairing}
 use borrow.Author.Rules.{rules}
 use Rattle.sheet.proofs.put_pairs.Goals as goal

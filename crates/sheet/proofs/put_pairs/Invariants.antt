@@ -5,8 +5,6 @@ use lib.Seq.{sets}
 use mathlib.Core.Bool.{true}
 use mathlib.Core.Path.{◌≡◌}
 use Prim.Native.Nat.{◌-◌, ◌*◌, ◌/◌, ◌≤◌}
-use Rattle.sheet.proofs.Decoding.{pairing}
-use borrow.Author.Rules.{rules}
 use Rattle.sheet.proofs.put_pairs.Given as goal
 
 abbrev pub invariant-loop-i : goal.invariant-loop-i

@@ -2,12 +2,8 @@ use Rattle.sheet.proofs.Fielding.{end_within, end_after, skip_starts, field_some
 use Rattle.sheet.proofs.Calling.{turn_line, turn_values}
 use Rattle.sheet.specs.declared.Value.TheVariants.{Is}
 use mathlib.Core.Bool.{true, false}
-use Rattle.sheet.specs.Reading.{fields_from}
-use Rattle.sheet.specs.Fields.{fields_of}
-use lib.Seq.{sets}
-use lib.ListN.{length, get_or, drop, length-set}
+use lib.ListN.{length-set}
 use mathlib.Core.Path.{◌≡◌}
-use Prim.Native.Nat.{◌-◌, ◌≤◌, ◌<◌}
 use Rattle.sheet.proofs.Calling.{calling}
 use native.Mathlib.Omega.{arith}
 use borrow.Author.Rules.{rules}

@@ -1,5 +1,3 @@
-use lib.ListN.{length-take}
-use native.Mathlib.Omega.{arith}
 use Rattle.sheet.proofs.Holding.{holding}
 use borrow.Author.Rules.{rules}
 use Rattle.sheet.proofs.read_status.Goals as goal

@@ -1,7 +1,3 @@
-use Rattle.sheet.specs.Steps.{run_end}
-use lib.ListN.{length}
-use mathlib.Core.Path.{◌≡◌}
-use Prim.Native.Nat.{◌-◌, ◌≤◌}
 use Rattle.sheet.proofs.Fielding.{runs}
 use borrow.Author.Rules.{rules}
 use Rattle.sheet.proofs.run_end.Goals as goal

@@ -2,8 +2,6 @@ use Rattle.sheet.specs.Steps.{run_end}
 use lib.ListN.{length}
 use mathlib.Core.Path.{◌≡◌}
 use Prim.Native.Nat.{◌-◌, ◌≤◌}
-use Rattle.sheet.proofs.Fielding.{runs}
-use borrow.Author.Rules.{rules}
 use Rattle.sheet.proofs.run_end.Given as goal
 
 abbrev pub invariant-loop-i : goal.invariant-loop-i

@@ -2,8 +2,6 @@ use Rattle.sheet.specs.Calls.{same_text}
 use lib.ListN.{length, drop}
 use mathlib.Core.Path.{◌≡◌}
 use Prim.Native.Nat.{◌-◌, ◌≤◌}
-use Rattle.sheet.proofs.Finding.{sames}
-use borrow.Author.Rules.{rules}
 use Rattle.sheet.proofs.same.Given as goal
 
 abbrev pub invariant-loop-i : goal.invariant-loop-i

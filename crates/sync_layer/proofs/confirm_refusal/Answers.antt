@@ -1,4 +1,3 @@
-use native.Mathlib.Omega.{arith}
 use Rattle.sync_layer.proofs.Answers.{confirms}
 use borrow.Author.Rules.{rules}
 use Rattle.sync_layer.proofs.confirm_refusal.Goals as goal

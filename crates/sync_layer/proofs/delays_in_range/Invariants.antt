@@ -1,6 +1,3 @@
-use native.Mathlib.Omega.{arith}
-use borrow.Author.Rules.{rules}
-use Rattle.sync_layer.proofs.Turns.{ranging}
 use Prim.Native.Nat.{◌-◌}
 use lib.ListN.{length}
 use Rattle.sync_layer.proofs.Turns.{InRange}

@@ -1,4 +1,3 @@
-use native.Mathlib.Omega.{arith}
 use Rattle.sync_layer.proofs.Answers.{saves}
 use borrow.Author.Rules.{rules}
 use Rattle.sync_layer.proofs.latest_saved_state_in_range.Goals as goal

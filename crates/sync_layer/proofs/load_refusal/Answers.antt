@@ -1,4 +1,3 @@
-use native.Mathlib.Omega.{arith}
 use Rattle.sync_layer.proofs.Answers.{saves}
 use borrow.Author.Rules.{rules}
 use Rattle.sync_layer.proofs.load_refusal.Goals as goal

@@ -1,4 +1,3 @@
-use native.Mathlib.Omega.{arith}
 use Rattle.sync_layer.proofs.Answers.{setups}
 use borrow.Author.Rules.{rules}
 use Rattle.sync_layer.proofs.new.Goals as goal

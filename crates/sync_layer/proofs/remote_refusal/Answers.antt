@@ -1,4 +1,3 @@
-use native.Mathlib.Omega.{arith}
 use Rattle.sync_layer.proofs.Answers.{inputs}
 use borrow.Author.Rules.{rules}
 use Rattle.sync_layer.proofs.remote_refusal.Goals as goal

@@ -1,5 +1,3 @@
-use mathlib.Core.Path.{refl}
-use native.Mathlib.Omega.{arith}
 use Rattle.sync_layer.proofs.Answers.{confirms}
 use borrow.Author.Rules.{rules}
 use Rattle.sync_layer.proofs.set_last_confirmed_frame.Goals as goal

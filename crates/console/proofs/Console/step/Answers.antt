@@ -1,5 +1,5 @@
-use Rattle.std.proofs.Common.{◌-◌, length, rules}
-use Rattle.console.proofs.Laws.{Stepping, steps}
+use Rattle.std.proofs.Common.{rules}
+use Rattle.console.proofs.Laws.{steps}
 use Rattle.console.proofs.Console.step.Goals as goal
 
 pub returns : goal.returns

@@ -1,5 +1,5 @@
-use Rattle.std.proofs.Common.{◌-◌, length, rules}
-use Rattle.console.proofs.Laws.{Stepping, steps}
+use Rattle.std.proofs.Common.{◌-◌, length}
+use Rattle.console.proofs.Laws.{Stepping}
 use Rattle.console.proofs.Console.step.Given as goal
 
 abbrev pub invariant-loop-i : goal.invariant-loop-i

@@ -1,7 +1,6 @@
 use lib.ListN.{length}
 use mathlib.Core.Path.{◌≡◌}
 use Prim.Native.Nat.{◌≤◌}
-use borrow.Author.Rules.{rules}
 use Rattle.cuesheet.proofs.reading.next_line.Given as goal
 
 abbrev pub invariant-loop-turns : goal.invariant-loop-turns

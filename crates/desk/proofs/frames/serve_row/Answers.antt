@@ -1,10 +1,5 @@
-use native.Mathlib.Omega.{arith}
-use Rattle.desk.proofs.Served.{servings, Serving, answer_at, serving_seats, serving_slots}
-use Rattle.desk.proofs.Loops.{writing, Written}
-use Prim.Native.Nat.{◌-◌}
-use Rattle.sync_layer.specs.Calls.{status_of}
-use Rattle.sync_layer.specs.Seats.{seat_at}
-use Rattle.input_queue.specs.Queue.{confirms}
+use Rattle.desk.proofs.Served.{servings}
+use Rattle.desk.proofs.Loops.{writing}
 use borrow.Author.Rules.{rules}
 use Rattle.desk.proofs.frames.serve_row.Goals as goal
 

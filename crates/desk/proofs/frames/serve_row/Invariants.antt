@@ -1,11 +1,9 @@
-use native.Mathlib.Omega.{arith}
-use Rattle.desk.proofs.Served.{servings, Serving, answer_at, serving_seats, serving_slots}
-use Rattle.desk.proofs.Loops.{writing, Written}
+use Rattle.desk.proofs.Served.{Serving, answer_at}
+use Rattle.desk.proofs.Loops.{Written}
 use Prim.Native.Nat.{◌-◌}
 use Rattle.sync_layer.specs.Calls.{status_of}
 use Rattle.sync_layer.specs.Seats.{seat_at}
 use Rattle.input_queue.specs.Queue.{confirms}
-use borrow.Author.Rules.{rules}
 use Rattle.desk.proofs.frames.serve_row.Given as goal
 
 abbrev pub invariant-loop-i : goal.invariant-loop-i

@@ -1,7 +1,3 @@
-use native.Mathlib.Omega.{arith}
-use Rattle.desk.proofs.Served.{serving_seats, serving_slots}
-use borrow.Author.Rules.{rules}
-use Rattle.desk.proofs.Served.{servings}
 use Prim.Native.Nat.{◌-◌}
 use Rattle.desk.proofs.Served.{Serving}
 use Rattle.desk.proofs.frames.serve_seats.Given as goal

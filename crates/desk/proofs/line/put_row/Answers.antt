@@ -1,8 +1,5 @@
 use borrow.Author.Rules.{rules}
 use Rattle.desk.proofs.Lines.{rows}
-use Prim.Native.Nat.{◌+◌, ◌-◌}
-use lib.ListN.{get_or}
-use Rattle.desk.proofs.Lines.{Spaced}
 use Rattle.desk.proofs.line.put_row.Goals as goal
 
 pub loop-i-init : goal.loop-i-init

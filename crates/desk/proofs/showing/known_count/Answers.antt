@@ -1,8 +1,5 @@
 use borrow.Author.Rules.{rules}
 use Rattle.desk.proofs.Loops.{leasts}
-use Prim.Native.Nat.{◌-◌}
-use Rattle.desk.proofs.Loops.{Least}
-use Rattle.sync_layer.specs.Seats.{seat_at}
 use Rattle.desk.proofs.showing.known_count.Goals as goal
 
 pub loop-i-init : goal.loop-i-init

@@ -1,5 +1,3 @@
-use borrow.Author.Rules.{rules}
-use Rattle.desk.proofs.Loops.{leasts}
 use Prim.Native.Nat.{◌-◌}
 use Rattle.desk.proofs.Loops.{Least}
 use Rattle.sync_layer.specs.Seats.{seat_at}

@@ -1,8 +1,5 @@
 use borrow.Author.Rules.{rules}
 use Rattle.desk.proofs.Loops.{writing}
-use Prim.Native.Nat.{◌+◌, ◌-◌}
-use lib.ListN.{get_or}
-use Rattle.desk.proofs.Loops.{Written}
 use Rattle.desk.proofs.showing.put_words.Goals as goal
 
 pub loop-i-init : goal.loop-i-init

@@ -1,5 +1,3 @@
-use borrow.Author.Rules.{rules}
-use Rattle.desk.proofs.Loops.{writing}
 use Prim.Native.Nat.{◌+◌, ◌-◌}
 use lib.ListN.{get_or}
 use Rattle.desk.proofs.Loops.{Written}

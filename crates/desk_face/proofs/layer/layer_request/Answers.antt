@@ -1,4 +1,4 @@
-use Rattle.desk_face.proofs.Layering.{asking, asked_words, asked_inputs, asked_statuses}
+use Rattle.desk_face.proofs.Layering.{asking}
 use borrow.Author.Rules.{rules}
 use Rattle.desk_face.proofs.layer.layer_request.Goals as goal
 

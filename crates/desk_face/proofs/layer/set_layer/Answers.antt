@@ -1,5 +1,3 @@
-use native.Mathlib.Omega.{arith}
-use lib.ListN.{length-set}
 use Rattle.desk_face.proofs.Layering.{layering}
 use borrow.Author.Rules.{rules}
 use Rattle.desk_face.proofs.layer.set_layer.Goals as goal

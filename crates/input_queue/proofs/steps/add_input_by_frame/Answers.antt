@@ -1,6 +1,5 @@
 use mathlib.Core.Path.{refl}
 use Rattle.input_queue.specs.Queue.{put}
-use borrow.Author.Rules.{rules}
 use Rattle.input_queue.proofs.steps.add_input_by_frame.Goals as goal
 
 pub returns : goal.returns

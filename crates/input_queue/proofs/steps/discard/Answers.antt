@@ -1,5 +1,4 @@
 use Rattle.input_queue.specs.Queue.{discard}
-use borrow.Author.Rules.{rules}
 use Rattle.input_queue.proofs.steps.discard.Goals as goal
 
 pub returns : goal.returns

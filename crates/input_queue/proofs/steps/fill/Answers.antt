@@ -1,6 +1,4 @@
-use Rattle.input_queue.proofs.Fills.{Filled, fills}
-use Prim.Native.Nat.{◌-◌}
-use native.Mathlib.Omega.{arith}
+use Rattle.input_queue.proofs.Fills.{fills}
 use borrow.Author.Rules.{rules}
 use Rattle.input_queue.proofs.steps.fill.Goals as goal
 

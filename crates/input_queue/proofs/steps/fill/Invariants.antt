@@ -1,7 +1,5 @@
-use Rattle.input_queue.proofs.Fills.{Filled, fills}
+use Rattle.input_queue.proofs.Fills.{Filled}
 use Prim.Native.Nat.{◌-◌}
-use native.Mathlib.Omega.{arith}
-use borrow.Author.Rules.{rules}
 use Rattle.input_queue.proofs.steps.fill.Given as goal
 
 abbrev pub invariant-loop-q : goal.invariant-loop-q

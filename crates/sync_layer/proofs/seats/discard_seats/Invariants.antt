@@ -1,8 +1,5 @@
-use native.Mathlib.Omega.{arith}
-use borrow.Author.Rules.{rules}
-use Rattle.sync_layer.proofs.Turns.{mapping}
 use Prim.Native.Nat.{◌-◌}
-use Rattle.sync_layer.proofs.Turns.{Mapped, mapped_turn}
+use Rattle.sync_layer.proofs.Turns.{Mapped}
 use Rattle.input_queue.specs.Queue.{discard}
 use Rattle.sync_layer.proofs.seats.discard_seats.Given as goal
 

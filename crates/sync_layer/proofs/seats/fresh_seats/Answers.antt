@@ -1,10 +1,5 @@
-use native.Mathlib.Omega.{arith}
 use borrow.Author.Rules.{rules}
 use Rattle.sync_layer.proofs.Turns.{mapping}
-use Prim.Native.Nat.{◌-◌}
-use lib.ListN.{length, get_or}
-use Rattle.sync_layer.proofs.Turns.{Mapped}
-use Rattle.input_queue.specs.Queue.{fresh_state}
 use Rattle.sync_layer.proofs.seats.fresh_seats.Goals as goal
 
 pub loop-i-init : goal.loop-i-init

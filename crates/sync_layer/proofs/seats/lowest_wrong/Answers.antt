@@ -1,9 +1,5 @@
-use native.Mathlib.Omega.{arith}
 use borrow.Author.Rules.{rules}
 use Rattle.sync_layer.proofs.Turns.{lowering}
-use Prim.Native.Nat.{◌-◌}
-use Rattle.sync_layer.proofs.Turns.{Lowest}
-use Rattle.sync_layer.specs.Seats.{seat_at}
 use Rattle.sync_layer.proofs.seats.lowest_wrong.Goals as goal
 
 pub loop-i-init : goal.loop-i-init

@@ -1,6 +1,3 @@
-use native.Mathlib.Omega.{arith}
-use borrow.Author.Rules.{rules}
-use Rattle.sync_layer.proofs.Turns.{lowering}
 use Prim.Native.Nat.{◌-◌}
 use Rattle.sync_layer.proofs.Turns.{Lowest}
 use Rattle.sync_layer.specs.Seats.{seat_at}

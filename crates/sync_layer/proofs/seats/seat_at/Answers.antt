@@ -1,4 +1,3 @@
-use native.Mathlib.Omega.{arith}
 use Rattle.sync_layer.proofs.Seating.{seatings}
 use borrow.Author.Rules.{rules}
 use Rattle.sync_layer.proofs.seats.seat_at.Goals as goal

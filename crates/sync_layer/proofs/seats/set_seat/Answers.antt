@@ -1,5 +1,3 @@
-use native.Mathlib.Omega.{arith}
-use lib.ListN.{length-set}
 use Rattle.sync_layer.proofs.Seating.{seatings}
 use borrow.Author.Rules.{rules}
 use Rattle.sync_layer.proofs.seats.set_seat.Goals as goal

@@ -1,4 +1,3 @@
-use native.Mathlib.Omega.{arith}
 use Rattle.sync_layer.proofs.Asking.{lookups}
 use borrow.Author.Rules.{rules}
 use Rattle.sync_layer.proofs.serving.confirmed_refusal.Goals as goal

@@ -1,6 +1,3 @@
-use native.Mathlib.Omega.{arith}
-use borrow.Author.Rules.{rules}
-use Rattle.sync_layer.proofs.Asking.{requests}
 use Prim.Native.Nat.{◌-◌}
 use Rattle.sync_layer.proofs.Asking.{Unrefused}
 use Rattle.sync_layer.specs.Calls as calls

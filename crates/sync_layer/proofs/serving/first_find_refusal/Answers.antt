@@ -1,9 +1,5 @@
-use native.Mathlib.Omega.{arith}
 use borrow.Author.Rules.{rules}
 use Rattle.sync_layer.proofs.Asking.{lookups}
-use Prim.Native.Nat.{◌-◌}
-use Rattle.sync_layer.specs.Calls as calls
-use Rattle.sync_layer.proofs.Asking.{Unrefused}
 use Rattle.sync_layer.proofs.serving.first_find_refusal.Goals as goal
 
 pub loop-i-init : goal.loop-i-init

@@ -1,6 +1,3 @@
-use native.Mathlib.Omega.{arith}
-use borrow.Author.Rules.{rules}
-use Rattle.sync_layer.proofs.Asking.{lookups}
 use Prim.Native.Nat.{◌-◌}
 use Rattle.sync_layer.specs.Calls as calls
 use Rattle.sync_layer.proofs.Asking.{Unrefused}

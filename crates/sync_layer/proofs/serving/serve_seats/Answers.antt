@@ -1,7 +1,6 @@
 use native.Mathlib.Omega.{arith}
-use Prim.Native.Nat.{◌-◌}
 use borrow.Author.Rules.{rules}
-use Rattle.sync_layer.proofs.Asking.{Serving, serving_serves, servings}
+use Rattle.sync_layer.proofs.Asking.{serving_serves, servings}
 use Rattle.sync_layer.proofs.serving.serve_seats.Goals as goal
 
 pub loop-i-init : goal.loop-i-init

@@ -1,7 +1,5 @@
-use native.Mathlib.Omega.{arith}
 use Prim.Native.Nat.{◌-◌}
-use borrow.Author.Rules.{rules}
-use Rattle.sync_layer.proofs.Asking.{Serving, serving_serves, servings}
+use Rattle.sync_layer.proofs.Asking.{Serving}
 use Rattle.sync_layer.proofs.serving.serve_seats.Given as goal
 
 abbrev pub invariant-loop-i : goal.invariant-loop-i

@@ -1,7 +1,4 @@
-use native.Mathlib.Omega.{arith}
-use mathlib.Core.Path.{refl}
 use Rattle.sync_layer.proofs.Asking.{request_gone, request_last, refused_seats, refused_words, refused_statuses, done_number, done_seats, done_words, done_statuses}
-use borrow.Author.Rules.{rules}
 use Rattle.sync_layer.proofs.serving.synchronized_inputs_into.Goals as goal
 
 pub returns-then-no-ne0 : goal.returns-then-no-ne0

@@ -1,8 +1,5 @@
-use native.Mathlib.Omega.{arith}
 use borrow.Author.Rules.{rules}
 use Rattle.sync_layer.proofs.Slotting.{clearing}
-use Prim.Native.Nat.{◌-◌}
-use Rattle.sync_layer.proofs.Slotting.{Cleared}
 use Rattle.sync_layer.proofs.slots.clear_slots.Goals as goal
 
 pub loop-i-init : goal.loop-i-init

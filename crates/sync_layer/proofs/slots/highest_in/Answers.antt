@@ -1,8 +1,5 @@
-use native.Mathlib.Omega.{arith}
 use borrow.Author.Rules.{rules}
 use Rattle.sync_layer.proofs.Slotting.{heights}
-use Prim.Native.Nat.{◌-◌}
-use Rattle.sync_layer.proofs.Slotting.{Highest}
 use Rattle.sync_layer.proofs.slots.highest_in.Goals as goal
 
 pub loop-i-init : goal.loop-i-init

@@ -1,6 +1,4 @@
 use Rattle.sync_layer.proofs.Slotting.{slotting}
-use native.Mathlib.Omega.{arith}
-use lib.ListN.{length-set}
 use borrow.Author.Rules.{rules}
 use Rattle.sync_layer.proofs.slots.save_slot.Goals as goal
 
