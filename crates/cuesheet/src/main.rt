@@ -94,7 +94,7 @@ fn field_buffer() -> [u64; 2048]
 // there is nobody to tell.
 fn tell_end(files: &impl Files, failed: u32) -> io::Result<()> {
     let mut options = File::options();
-    options.write(true);
+    options.append(true);
     let mut to = options.open(files, WORD_FILE)?;
     if failed == reading::NOTHING {
         to.write_all(b"all\n")
