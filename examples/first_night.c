@@ -1,12 +1,9 @@
 /* A first night through the C face: one seat with delay 1, two words, three frames, and the log of each.
  *
- *     rt staticlib desk_face
- *     cc examples/first_night.c target/staticlib/libdesk_face.a -o first_night && ./first_night
+ *     (cd crates/desk_face && rt lib)
+ *     cc examples/first_night.c crates/desk_face/out/libdesk_face.a -o first_night && ./first_night
  *
- * The archive is for x86-64. On Arm of 64 bits bench/module makes an object instead:
- *
- *     bench/module desk_face target/desk_face.o
- *     cc examples/first_night.c target/desk_face.o -o first_night && ./first_night
+ * The archive is for Linux on x86-64.
  */
 #include <stddef.h>
 #include <stdint.h>

@@ -1,10 +1,9 @@
 //! A first night through the C face, from Rust: one seat with delay 1, two words, three frames, and the log of each.
 //!
-//!     rt staticlib desk_face
-//!     rustc --edition 2021 examples/first_night.rs -C link-arg=target/staticlib/libdesk_face.a -o first_night && ./first_night
+//!     (cd crates/desk_face && rt lib)
+//!     rustc --edition 2021 examples/first_night.rs -C link-arg=crates/desk_face/out/libdesk_face.a -o first_night && ./first_night
 //!
-//! The archive is for x86-64. On Arm of 64 bits bench/module makes an object instead, to be linked in the same way:
-//! `bench/module desk_face target/desk_face.o`.
+//! The archive is for Linux on x86-64.
 
 // A list is a pointer and a length. Every function answers a number of docs/RULES.md, 0 for done.
 #[rustfmt::skip]

@@ -3,7 +3,6 @@
 import glob
 import hashlib
 import os
-import platform
 import shutil
 import subprocess
 import sys
@@ -11,6 +10,7 @@ import sys
 HERE = os.path.dirname(os.path.abspath(__file__))
 ROOT = os.path.dirname(HERE)
 BUILT = os.path.join(HERE, "target", "release")
+PROGRAM = os.path.join(ROOT, "crates", "cuesheet", "out", "cuesheet")
 LONGEST = 4096
 
 KINDS = ["queue", "delta", "sync", "layer", "desk"]
@@ -85,24 +85,11 @@ def oracle(sheet, *words):
     return answers
 
 
-def for_x86_64(program):
-    """Whether it is an ELF file for x86-64."""
-    with open(program, "rb") as file:
-        start = file.read(20)
-    return start[:4] == b"\x7fELF" and start[18:20] == bytes([62, 0])
-
-
 def command(program):
-    """How a program is started. Those of the repository are made for x86-64, and elsewhere the kit of rt has an emulator."""
-    if platform.machine() == "x86_64" or not for_x86_64(program):
-        return [program]
-    rt = shutil.which("rt")
-    home = os.environ.get("RATTLE_HOME") or (rt and os.path.dirname(os.path.dirname(os.path.realpath(rt))))
-    tools = os.path.join(home or "", "on", platform.machine(), "toolchain")
-    emulator, library = os.path.join(tools, "bin", "qemu-x86_64"), os.path.join(tools, "lib")
-    if not os.access(emulator, os.X_OK):
-        stop(f"{program} is made for x86-64, this machine is {platform.machine()}, and rt's emulator was not found.")
-    return [emulator, os.path.join(library, "ld-linux-x86-64.so.2"), "--library-path", library, program]
+    """How a program that answers sheets is started."""
+    if not os.path.isfile(program):
+        stop(f"There is no {program}." + (" ./cue proves and builds it." if program == PROGRAM else ""))
+    return [os.path.abspath(program)]
 
 
 def is_call(line):
