@@ -1,5 +1,5 @@
 -- What an advance makes of the windows, by the frame's slot. Assumes nothing.
-use Rattle.std.proofs.Common.{◌≡◌, ℕ, ◌-◌, ◌%◌, ◌<◌, ◌≤◌, set, ℤ, pos, negsuc, refl, arith}
+use Rattle.std.proofs.Common.{◌≡◌, ℕ, ◌-◌, ◌%◌, ◌<◌, ◌≤◌, set, ℤ, pos, negsuc, refl, ap, to_z-of_z, arith}
 use Prim.{absurd}
 use Rattle.frame_info.specs.Frame.{count_of}
 use Rattle.time_sync.specs.Windows.{slot_of, written, advanced}
@@ -32,3 +32,18 @@ module _ (s : TimeSync) (l r : ℤ) where
   unfolding advanced written
   advanced_some (pos n) i e h = rw e
   advanced_some (negsuc n) i e h = absurd (omega arith)
+
+  -- the same, number and windows apart
+  pub none_no : (f : ℤ) (i : ℕ) → i ≡ slot_of f → 30 ≤ i → 7 ≡ (advanced s f l r).no
+  none_no f i e h = ap (λ (a : Advanced). a.no) (advanced_none f i e h)
+
+  pub none_sync : (f : ℤ) (i : ℕ) → i ≡ slot_of f → 30 ≤ i → s ≡ (advanced s f l r).sync
+  none_sync f i e h = ap (λ (a : Advanced). a.sync) (advanced_none f i e h)
+
+  pub some_no : (f : ℤ) (i : ℕ) → i ≡ slot_of f → i < 30 → 0 ≡ (advanced s f l r).no
+  some_no f i e h = ap (λ (a : Advanced). a.no) (advanced_some f i e h)
+
+  pub some_sync : (f : ℤ) (i : ℕ) → i ≡ slot_of f → i < 30 → put s i l r ≡ (advanced s f l r).sync
+  some_sync f i e h = ap (λ (a : Advanced). a.sync) (advanced_some f i e h)
+
+pub ruleset advances = (none_no, none_sync, some_no, some_sync, to_z-of_z)

@@ -72,6 +72,7 @@ impl TimeSync {
     }
 
     // Writes the frame's slot of each window where it stands, and answers the number. A frame below 0 is refused.
+    #[tactic(auto, using(crate::proofs::Windows::advances))]
     pub fn advance(&mut self, frame: i32, local_adv: i32, remote_adv: i32) -> u32
         ensures { (result ≡ (advanced self.old frame local_adv remote_adv).no)
             × (self.new ≡ (advanced self.old frame local_adv remote_adv).sync) }
