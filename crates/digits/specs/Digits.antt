@@ -1,5 +1,6 @@
 -- Numbers as text: which bytes are digits, what a run of digits is worth, and how a number is written.
-use Rattle.std.specs.Prelude.{ℕ, zero, suc, ◌+◌, ◌-◌, ◌*◌, ◌/◌, ◌%◌, ◌^◌, Bool, true, ◌&&◌, List, [], ◌∷◌, ◌++◌, length, ltb, leb, eqb, ℤ, pos, negsuc, neg_ℤ}
+use Rattle.std.specs.Prelude.{ℕ, zero, suc, ◌+◌, ◌-◌, ◌*◌, ◌/◌, ◌%◌, ◌^◌, ℤ, pos, negsuc, neg_ℤ}
+use Rattle.std.specs.Prelude.{Bool, true, ◌&&◌, List, [], ◌∷◌, ◌++◌, length, ltb, leb, eqb}
 use Rattle.std.specs.Int.Signed.{le_z}
 use Rattle.std.specs.Int.{w32}
 use Rattle.std.proofs.Common.{of_z}

@@ -5,6 +5,5 @@ use Rattle.cues_world.proofs.answer.Goals as goal
 
 pub make-requires : goal.make-requires
 make-requires c =
-    let p = c in
     let r = c.read_line-read.ensures in
-    (omega (arith, args_same p.args.line.now p.args.args.now _ r.1, p.requires.0), count_few p.args.line.now _ r.0, p.requires.1, p.requires.2)
+    (omega (arith, args_same c.args.line.now c.args.args.now _ r.1, c.requires.0), count_few c.args.line.now _ r.0, c.requires.1, c.requires.2)

@@ -20,27 +20,22 @@ slice_bounds-same-start c = search (rules, end_after, end_within)
 pub slice_bounds-same-end : goal.slice_bounds-same-end
 unfolding table text_of row_text count_byte calls row bytes_of
 slice_bounds-same-end c =
-    let e = c in
-    let k = e.loop-k.k in
+    let k = c.loop-k.k in
     let h : k * 19 ≤ row_count * 19 = omega arith in
-    end_within false table (k * 19) e.run_end-end.result h e.run_end-end.ensures
+    end_within false table (k * 19) c.run_end-end.result h c.run_end-end.ensures
 
 pub returns-then-same : goal.returns-then-same
 unfolding table text_of row_text count_byte calls row bytes_of
 returns-then-same c =
-    let s = c in
-    let e = s in
-    let l = e.loop-k in
-    find_stops e.args.name.now l.k (l.k * 19) e.run_end-end.result _ s.same.result e.loop-k-test.true refl e.run_end-end.ensures s.same.ensures c.if-same.true l.invariant.1
+    let l = c.loop-k in
+    find_stops c.args.name.now l.k (l.k * 19) c.run_end-end.result _ c.same.result c.loop-k-test.true refl c.run_end-end.ensures c.same.ensures c.if-same.true l.invariant.1
 
 pub loop-k-preserved : goal.loop-k-preserved
 unfolding table text_of row_text count_byte calls row bytes_of
 loop-k-preserved c =
-    let s = c in
-    let e = s in
-    let l = e.loop-k in (
+    let l = c.loop-k in (
       omega arith,
-      find_again e.args.name.now l.k (l.k * 19) e.run_end-end.result _ s.same.result e.loop-k-test.true refl e.run_end-end.ensures s.same.ensures c.if-same.false l.invariant.1,
+      find_again c.args.name.now l.k (l.k * 19) c.run_end-end.result _ c.same.result c.loop-k-test.true refl c.run_end-end.ensures c.same.ensures c.if-same.false l.invariant.1,
     )
 
 pub returns : goal.returns

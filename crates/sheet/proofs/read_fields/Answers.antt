@@ -29,27 +29,24 @@ returns-in_default c = search (rules, calling)
 
 pub loop-at-smaller : goal.loop-at-smaller
 loop-at-smaller c =
-    let z = c in
-    let p = z.loop-at in
-    let l = z.args.line.now in
-    let h = z.loop-at-test.true in
-    omega (arith, field_some l p.at z.run_end-end.result h (p.invariant.1 h) z.run_end-end.ensures, end_after true l z.run_end-end.result c.run_end-at-in-loop-at.result c.run_end-at-in-loop-at.ensures)
+    let p = c.loop-at in
+    let l = c.args.line.now in
+    let h = c.loop-at-test.true in
+    omega (arith, field_some l p.at c.run_end-end.result h (p.invariant.1 h) c.run_end-end.ensures, end_after true l c.run_end-end.result c.run_end-at-in-loop-at.result c.run_end-at-in-loop-at.ensures)
 
 pub loop-at-preserved : goal.loop-at-preserved
 loop-at-preserved c =
-    let s = c in
-    let z = s in
-    let p = z.loop-at in
-    let a = z.args in
-    let h = z.loop-at-test.true in
-    let e = end_within false a.line.now p.at z.run_end-end.result p.invariant.0 z.run_end-end.ensures in
-    let y : s.read_field-value.result ≡ Is c.in-Is.v = c.in-Is.is in (
-      end_within true a.line.now z.run_end-end.result c.run_end-at-in-loop-at.result e c.run_end-at-in-loop-at.ensures,
-      skip_starts a.line.now z.run_end-end.result c.run_end-at-in-loop-at.result e c.run_end-at-in-loop-at.ensures,
+    let p = c.loop-at in
+    let a = c.args in
+    let h = c.loop-at-test.true in
+    let e = end_within false a.line.now p.at c.run_end-end.result p.invariant.0 c.run_end-end.ensures in
+    let y : c.read_field-value.result ≡ Is c.in-Is.v = c.in-Is.is in (
+      end_within true a.line.now c.run_end-end.result c.run_end-at-in-loop-at.result e c.run_end-at-in-loop-at.ensures,
+      skip_starts a.line.now c.run_end-end.result c.run_end-at-in-loop-at.result e c.run_end-at-in-loop-at.ensures,
       omega arith,
       simp length-set p.invariant.3,
-      turn_line a.line.now a.call p.count p.at h p.invariant.1 c.in-Is.v s.read_field-value.result s.kind_at.result z.run_end-end.result c.run_end-at-in-loop-at.result z.if-most-count.false z.run_end-end.ensures c.run_end-at-in-loop-at.ensures s.kind_at.ensures s.read_field-value.ensures _ y p.invariant.4,
-      turn_values a.line.now a.call p.count p.at h p.invariant.1 c.in-Is.v s.read_field-value.result s.kind_at.result z.run_end-end.result c.run_end-at-in-loop-at.result z.if-most-count.false z.run_end-end.ensures c.run_end-at-in-loop-at.ensures s.kind_at.ensures s.read_field-value.ensures p.args _ y p.invariant.5,
+      turn_line a.line.now a.call p.count p.at h p.invariant.1 c.in-Is.v c.read_field-value.result c.kind_at.result c.run_end-end.result c.run_end-at-in-loop-at.result c.if-most-count.false c.run_end-end.ensures c.run_end-at-in-loop-at.ensures c.kind_at.ensures c.read_field-value.ensures _ y p.invariant.4,
+      turn_values a.line.now a.call p.count p.at h p.invariant.1 c.in-Is.v c.read_field-value.result c.kind_at.result c.run_end-end.result c.run_end-at-in-loop-at.result c.if-most-count.false c.run_end-end.ensures c.run_end-at-in-loop-at.ensures c.kind_at.ensures c.read_field-value.ensures p.args _ y p.invariant.5,
     )
 
 pub returns-then-count-call : goal.returns-then-count-call

@@ -16,16 +16,14 @@ returns-then-line-gt4096 c =
 
 pub returns-then-line-at : goal.returns-then-line-at
 returns-then-line-at c =
-    let s = c in
-    let a = s.args in
-    answered a.line.now a.args.now PASSED (empty_is a.line.now s.run_end-at.result s.if-line-gt4096.false s.run_end-at.ensures c.if-line-at.true)
+    let a = c.args in
+    answered a.line.now a.args.now PASSED (empty_is a.line.now c.run_end-at.result c.if-line-gt4096.false c.run_end-at.ensures c.if-line-at.true)
 
 pub returns-then-line-at-eq35 : goal.returns-then-line-at-eq35
 returns-then-line-at-eq35 c =
-    let s = c in
-    let a = s.args in
+    let a = c.args in
     answered a.line.now a.args.now PASSED
-    (comment_is a.line.now s.run_end-at.result s.if-line-gt4096.false s.run_end-at.ensures (run_end false a.line.now s.run_end-at.result) c.if-line-at.false refl c.if-line-at-eq35.true)
+    (comment_is a.line.now c.run_end-at.result c.if-line-gt4096.false c.run_end-at.ensures (run_end false a.line.now c.run_end-at.result) c.if-line-at.false refl c.if-line-at-eq35.true)
 
 pub slice_bounds-find_call-count : goal.slice_bounds-find_call-count
 slice_bounds-find_call-count c = search (rules, calling)
@@ -38,34 +36,23 @@ slice_bounds-find_call-end c = search (rules, calling)
 
 pub returns-then-k-ge-ROWS : goal.returns-then-k-ge-ROWS
 returns-then-k-ge-ROWS c =
-    let f = c in
-    let e = f in
-    let s = e in
-    let a = s.args in
+    let a = c.args in
     answered a.line.now a.args.now BAD
-    (unknown_is a.line.now s.run_end-at.result s.if-line-gt4096.false s.run_end-at.ensures e.run_end-end.result e.if-line-at.false e.run_end-end.ensures
-    f.find_call-k.result e.if-line-at-eq35.false f.find_call-k.ensures c.if-k-ge-ROWS.true)
+    (unknown_is a.line.now c.run_end-at.result c.if-line-gt4096.false c.run_end-at.ensures c.run_end-end.result c.if-line-at.false c.run_end-end.ensures
+    c.find_call-k.result c.if-line-at-eq35.false c.find_call-k.ensures c.if-k-ge-ROWS.true)
 
 pub read_fields-requires : goal.read_fields-requires
 read_fields-requires c =
-    let f = c in
-    let e = f in
-    let s = e in
-    let a = s.args in (
-      end_within false a.line.now s.run_end-at.result e.run_end-end.result
-          (end_within true a.line.now 0 s.run_end-at.result (omega arith) s.run_end-at.ensures) e.run_end-end.ensures,
-      most_few f.find_call-k.result c.call_at.result _ c.call_at.ensures s.requires,
+    let a = c.args in (
+      end_within false a.line.now c.run_end-at.result c.run_end-end.result
+          (end_within true a.line.now 0 c.run_end-at.result (omega arith) c.run_end-at.ensures) c.run_end-end.ensures,
+      most_few c.find_call-k.result c.call_at.result _ c.call_at.ensures c.requires,
     )
 
 pub returns : goal.returns
 returns c =
-    let r = c in
-    let k = r in
-    let f = k in
-    let e = f in
-    let s = e in
-    let a = s.args in
+    let a = c.args in
     made a.line.now a.args.now _ _ _
-    (known_is a.line.now s.run_end-at.result s.if-line-gt4096.false s.run_end-at.ensures e.run_end-end.result e.if-line-at.false e.run_end-end.ensures
-    f.find_call-k.result e.if-line-at-eq35.false f.find_call-k.ensures k.call_at.result k.if-k-ge-ROWS.false k.call_at.ensures)
-    r.read_fields.ensures.0 r.read_fields.ensures.1
+    (known_is a.line.now c.run_end-at.result c.if-line-gt4096.false c.run_end-at.ensures c.run_end-end.result c.if-line-at.false c.run_end-end.ensures
+    c.find_call-k.result c.if-line-at-eq35.false c.find_call-k.ensures c.call_at.result c.if-k-ge-ROWS.false c.call_at.ensures)
+    c.read_fields.ensures.0 c.read_fields.ensures.1
