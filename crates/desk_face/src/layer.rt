@@ -47,14 +47,7 @@ fn room_to_save(state: &[u32], slots: &[u32]) -> bool
 }
 
 // Answers 20 where a list is too short, else 0.
-#[unsafe(no_mangle)]
-pub extern "C" fn layer_save(
-    state: &mut [u32],
-    slots: &mut [u32],
-    head: u32,
-    kind: u32,
-    seal: u32,
-) -> u32
+pub fn layer_save(state: &mut [u32], slots: &mut [u32], head: u32, kind: u32, seal: u32) -> u32
     requires { SaveReady state.old slots.old }
     ensures { (result ≡ save_number state.old slots.old)
         × (state.new ≡ save_state state.old slots.old)
@@ -97,8 +90,7 @@ fn room_to_request(
 }
 
 // Answers 20 where a list is too short, else the layer's number.
-#[unsafe(no_mangle)]
-pub extern "C" fn layer_request(
+pub fn layer_request(
     state: &[u32],
     seats: &mut [u32],
     words: &[u32],

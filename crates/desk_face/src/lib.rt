@@ -1,6 +1,6 @@
-// The desk for programs in C or Rust. Each function is one call of the crate `desk`, and adds
-// nothing: what the desk takes and hands back as structs stands here in lists of 32-bit numbers,
-// since a struct has no layout that C knows.
+// The desk for programs in C or Rust, to which the crate `desk_face_c` exports it. Each function is
+// one call of the crate `desk`, and adds nothing: what the desk takes and hands back as structs
+// stands here in lists of 32-bit numbers, since a struct has no layout that C knows.
 //
 // `state` is the desk's own seven numbers. `said` has what a call answers beside its number, with
 // a frame as a count: 0 for none, else the frame + 1. A list is a pointer and a length. Each
@@ -10,7 +10,7 @@
 // overlap, and a desk that came from `desk_setup` and the calls after it.
 #![tactic(auto)]
 
-mod layer;
+pub mod layer;
 mod room;
 
 ghost use Rattle.std.specs.Prelude.{◌≡◌, true, [], ◌≤◌, length, get_or};
@@ -87,8 +87,7 @@ fn put_row(out: &mut [u32], row: &[u32; MAX_SEATS], n: usize)
     }
 }
 
-#[unsafe(no_mangle)]
-pub extern "C" fn desk_setup(
+pub fn desk_setup(
     state: &mut [u32],
     seats: &mut [u32],
     slots: &mut [u32],
@@ -109,8 +108,7 @@ pub extern "C" fn desk_setup(
 }
 
 // `said` has the place.
-#[unsafe(no_mangle)]
-pub extern "C" fn desk_take(
+pub fn desk_take(
     state: &[u32],
     seats: &mut [u32],
     words: &mut [u32],
@@ -136,8 +134,7 @@ pub extern "C" fn desk_take(
 }
 
 // `said` has the report.
-#[unsafe(no_mangle)]
-pub extern "C" fn desk_settle(
+pub fn desk_settle(
     state: &mut [u32],
     seats: &mut [u32],
     words: &[u32],
@@ -196,8 +193,7 @@ fn advance(
 }
 
 // `said` has the report. `served` and `statuses` have one place for each seat.
-#[unsafe(no_mangle)]
-pub extern "C" fn desk_advance(
+pub fn desk_advance(
     state: &mut [u32],
     seats: &mut [u32],
     words: &[u32],
@@ -254,8 +250,7 @@ fn show(
 }
 
 // `said` has the console after the frame. `shown` has one place for each seat.
-#[unsafe(no_mangle)]
-pub extern "C" fn desk_show(
+pub fn desk_show(
     state: &[u32],
     seats: &[u32],
     slots: &[u32],
@@ -277,8 +272,7 @@ pub extern "C" fn desk_show(
 }
 
 // `said` has the number of bytes written.
-#[unsafe(no_mangle)]
-pub extern "C" fn desk_log(
+pub fn desk_log(
     state: &[u32],
     seats: &[u32],
     slots: &[u32],
@@ -304,8 +298,7 @@ pub extern "C" fn desk_log(
 
 // `said` has K as a count, 0 where a seat has no word: a number of its own would be one more that a
 // caller has to tell from a refusal.
-#[unsafe(no_mangle)]
-pub extern "C" fn desk_known(state: &[u32], seats: &[u32], said: &mut [u32]) -> u32
+pub fn desk_known(state: &[u32], seats: &[u32], said: &mut [u32]) -> u32
     requires { face.known_fits (face.lent state.now seats.now [] [] [] [] said.old) ≡ true → bounds.Seated (desk_at state.now) seats.now }
     ensures { face.left result (face.lent state.now seats.now [] [] [] [] said.new)
         ≡ face.known_leaves (face.lent state.now seats.now [] [] [] [] said.old) }

@@ -136,8 +136,7 @@ fn night(words: &[u32], frames: u32, said: &mut [u32]) -> u32
 
 // Two words a frame. Answers 6 where there are more frames than a reel has, 20 where a list is too
 // short, and else how many calls were refused, which is 0 where all went well.
-#[unsafe(no_mangle)]
-pub extern "C" fn value_night(words: &[u32], frames: u32, said: &mut [u32]) -> u32
+pub fn value_night(words: &[u32], frames: u32, said: &mut [u32]) -> u32
     ensures { length said.new ≡ length said.old }
 {
     if frames >= LAST_COUNT {
