@@ -1,7 +1,7 @@
 /* A first night through the C face: one seat with delay 1, two words, three frames, and the log of each.
  *
- *     (cd crates/desk_face && rt lib)
- *     cc examples/first_night.c crates/desk_face/out/libdesk_face.a -o first_night && ./first_night
+ *     examples/archive desk_face
+ *     cc examples/first_night.c target/staticlib/libdesk_face.a -o first_night && ./first_night
  *
  * The archive is for Linux on x86-64.
  */

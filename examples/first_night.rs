@@ -1,7 +1,7 @@
 //! A first night through the C face, from Rust: one seat with delay 1, two words, three frames, and the log of each.
 //!
-//!     (cd crates/desk_face && rt lib)
-//!     rustc --edition 2021 examples/first_night.rs -C link-arg=crates/desk_face/out/libdesk_face.a -o first_night && ./first_night
+//!     examples/archive desk_face
+//!     rustc --edition 2021 examples/first_night.rs -C link-arg=target/staticlib/libdesk_face.a -o first_night && ./first_night
 //!
 //! The archive is for Linux on x86-64.
 
