@@ -1,5 +1,5 @@
 pub mod Split
 pub mod Picked
 pub mod Counts
-pub mod Signed
 pub mod Words
+pub mod Refusals

@@ -1,5 +1,7 @@
--- The numbers by which a call says no, as the promises cite them. src/refusal.rt has each number's sentence.
-use Rattle.std.specs.Prelude.{ℕ}
+-- The numbers by which a call says no, as the promises cite them. src/refusal.rt has each one's sentence.
+use Rattle.std.specs.Prelude.{ℕ, Option, Some, None, Result, Ok, Err}
+use Rattle.frame_info.specs.declared.refusal.Refusal.{Refusal}
+use Rattle.frame_info.specs.declared.refusal.Refusal.TheVariants.{OutOfRange, NoSuchSeat, NotNextFrame, QueueFull, TooFarAhead, FrameTooHigh, FrameBelowZero, LoadNotPast, LoadTooOld, SlotHoldsAnother, NotConfirmed, NotCurrentFrame, MismatchStands, BelowOldest, AboveMismatch, HalfLength, FewerBytes, LengthsDiffer, NoRoomForLengths, NoRoomForBytes, NotSettled}
 
 abbrev pub done : ℕ
 done = 0
@@ -66,3 +68,37 @@ no_room_for_bytes = 20
 
 abbrev pub not_settled : ℕ
 not_settled = 21
+
+-- the number of each
+abbrev pub number_of : Refusal → ℕ
+number_of OutOfRange = out_of_range
+number_of NoSuchSeat = no_such_seat
+number_of NotNextFrame = not_next_frame
+number_of QueueFull = queue_full
+number_of TooFarAhead = too_far_ahead
+number_of FrameTooHigh = frame_too_high
+number_of FrameBelowZero = frame_below_zero
+number_of LoadNotPast = load_not_past
+number_of LoadTooOld = load_too_old
+number_of SlotHoldsAnother = slot_holds_another
+number_of NotConfirmed = not_confirmed
+number_of NotCurrentFrame = not_current_frame
+number_of MismatchStands = mismatch_stands
+number_of BelowOldest = below_oldest
+number_of AboveMismatch = above_mismatch
+number_of HalfLength = half_length
+number_of FewerBytes = fewer_bytes
+number_of LengthsDiffer = lengths_differ
+number_of NoRoomForLengths = no_room_for_lengths
+number_of NoRoomForBytes = no_room_for_bytes
+number_of NotSettled = not_settled
+
+-- the number by which a call answers: 0 where it is done
+abbrev pub number_in : {A : Type 0} → Result A Refusal → ℕ
+number_in (Ok a) = done
+number_in (Err e) = number_of e
+
+-- and by which a setup does, whose answer stands beside its refusal
+abbrev pub number_given : Option Refusal → ℕ
+number_given None = done
+number_given (Some e) = number_of e

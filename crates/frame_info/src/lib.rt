@@ -8,9 +8,7 @@
 pub mod input_status;
 pub mod refusal;
 
-ghost use Rattle.std.specs.Prelude.{◌≡◌, ◌-◌, min, max, eqb};
-ghost use Rattle.std.specs.Int.{w32};
-ghost use Rattle.std.proofs.Common.{to_z};
+ghost use Rattle.std.specs.Prelude.{◌≡◌, eqb};
 ghost use Rattle.frame_info.specs.Frame.{count_of, frame_of};
 ghost use Rattle.frame_info.specs.Word.{box_of, predicted, player_input, blank};
 
@@ -30,10 +28,8 @@ pub const PREDICTORS: u32 = 3;
 // The word of a hand that does nothing.
 pub const BLANK: u32 = 0;
 
-// The first pattern of 32 bits that stands for a number below 0, and the last one.
-const SIGN_BIT: u32 = 2_147_483_648;
-
-const ALL_ONES: u32 = 4_294_967_295;
+// The highest count that has a frame.
+const HIGHEST_COUNT: u32 = 2_147_483_648;
 
 // The frame as a count: 0 for one below 0.
 pub fn count_of(frame: i32) -> u32
@@ -49,40 +45,10 @@ pub fn frame_of(count: u32) -> i32
     if count == 0 {
         return NULL_FRAME;
     }
-    if count > SIGN_BIT {
+    if count > HIGHEST_COUNT {
         return NULL_FRAME;
     }
     (count - 1) as i32
-}
-
-// The i32 of a pattern of 32 bits.
-pub fn signed_of(bits: u32) -> i32
-    ensures { result ≡ to_z w32 bits }
-{
-    if bits < SIGN_BIT {
-        bits as i32
-    } else {
-        -1 - ((ALL_ONES - bits) as i32)
-    }
-}
-
-// The frame of a count, and the place before a place: 0 for 0.
-pub fn one_less(count: u32) -> u32
-    ensures { result ≡ count - 1 }
-{
-    if count == 0 { 0 } else { count - 1 }
-}
-
-pub fn lesser(a: u32, b: u32) -> u32
-    ensures { result ≡ min a b }
-{
-    if a < b { a } else { b }
-}
-
-pub fn greater(a: u32, b: u32) -> u32
-    ensures { result ≡ max a b }
-{
-    if a < b { b } else { a }
 }
 
 // One hand's word for one frame.
@@ -129,11 +95,9 @@ pub fn box_of(word: u32) -> u32
 pub fn predict(predictor: u32, word: u32) -> u32
     ensures { result ≡ predicted predictor word }
 {
-    if predictor == 0 {
-        return word;
+    match predictor {
+        0 => word,
+        1 => BLANK,
+        _ => word - word % 256,
     }
-    if predictor == 1 {
-        return BLANK;
-    }
-    word - word % 256
 }

@@ -9,12 +9,13 @@ use mathlib.Core.List.{List}
 use lib.IntN.{ℤ}
 use borrow.Author.Tests.{eq-eqb, ne_eqb, lt-ltb, le-ltb, not-true, not-false}
 use Rattle.frame_info.proofs.Split.{split_eqb, split_ltb}
+use Rattle.frame_info.proofs.Refusals.{number_some, done_of}
 use Rattle.frame_info.specs.Frame.{null_frame, last_count, count_of, frame_of}
 use Rattle.frame_info.specs.Word.{player_input, predicted}
 use Rattle.frame_info.specs.declared.PlayerInput.{PlayerInput}
 use Rattle.input_queue.specs.declared.QueueState.{QueueState}
 use Rattle.input_queue.specs.declared.Asked.{Asked}
-use Rattle.input_queue.specs.declared.Announced.{Announced}
+use Rattle.input_queue.specs.Answer.{Announced}
 use Rattle.input_queue.specs.Queue as queue
 use Rattle.input_queue.specs.Ring.{word_at, add_words}
 use Rattle.input_queue.specs.Calls as calls
@@ -116,4 +117,4 @@ rise s d t e h =
     (λ a. absurd (true≢false (sym (not-false t h) ∙ e ∙ simp a.1)))
     (split_ltb s.frame_delay d)
 
-pub ruleset answers = (add_some, add_low, input_some, found_some, add_refused, add_untouched, add_done, add_written, serve_refused, serve_done, find_refused, find_done, discard_refused, discard_done, delay_refused, delay_quiet, delay_told, rise)
+pub ruleset answers = (number_some, done_of, add_some, add_low, input_some, found_some, add_refused, add_untouched, add_done, add_written, serve_refused, serve_done, find_refused, find_done, discard_refused, discard_done, delay_refused, delay_quiet, delay_told, rise)

@@ -6,12 +6,7 @@ use Rattle.frame_info.specs.Word.{blank, player_input, predicted}
 use Rattle.frame_info.specs.Refusal.{done, out_of_range, not_next_frame, queue_full, frame_too_high, frame_below_zero, not_confirmed, mismatch_stands, below_oldest}
 use Rattle.frame_info.specs.declared.PlayerInput.{PlayerInput}
 use Rattle.input_queue.specs.declared.QueueState.{QueueState}
-use Rattle.input_queue.specs.declared.Opened.{Opened}
-use Rattle.input_queue.specs.declared.Added.{Added}
-use Rattle.input_queue.specs.declared.Served.{Served}
-use Rattle.input_queue.specs.declared.Found.{Found}
-use Rattle.input_queue.specs.declared.Discarded.{Discarded}
-use Rattle.input_queue.specs.declared.Announced.{Announced}
+use Rattle.input_queue.specs.Answer.{Opened, Added, Served, Found, Discarded, Announced}
 use Rattle.input_queue.specs.Queue.{fresh_state, newest, tossed, add, place_count, answer, confirms, asked, discard, delayed}
 use Rattle.input_queue.specs.Ring.{queue_length, word_at, add_words}
 

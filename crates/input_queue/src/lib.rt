@@ -5,18 +5,21 @@
 // holds words alone, and place f is held while it is one of the newest 128. The crate
 // `input_queue_value` has the same queue with its ring inside, by value.
 //
-// Each call tests for itself. One that refuses answers its number, the state as it was given, and
-// writes nothing.
+// Each call tests for itself. One that refuses answers why, and writes nothing: the state that it was
+// given stands.
 #![tactic(auto)]
 
 mod steps;
 
 ghost use Rattle.std.specs.Prelude.{◌≤◌, ◌<◌, ◌≡◌};
 ghost use Rattle.frame_info.specs.Frame.{last_count};
+ghost use Rattle.frame_info.specs.Refusal.{done, number_in};
 ghost use Rattle.input_queue.specs.Calls as calls;
 ghost use Rattle.input_queue.specs.Queue as queue;
+ghost use Rattle.input_queue.specs.Said.{opened_said, added_said, served_said, found_said, discarded_said, announced_in, announced_said};
 ghost use Rattle.input_queue.specs.Whole.{Sane, Whole};
 
+use frame_info::refusal::Refusal;
 use frame_info::{
     BLANK, LAST_COUNT, MAX_DELAY, NULL_FRAME, PREDICTORS, PlayerInput, count_of, frame_of,
 };
@@ -26,7 +29,7 @@ pub use steps::{ask, discard, fresh_state, reset, store};
 pub const INPUT_QUEUE_LENGTH: usize = 128;
 
 // Frames are counts here: 0 for none, else the frame + 1.
-#[derive(Clone, Copy)]
+#[derive(Clone, Copy, Debug, PartialEq, Eq)]
 pub struct QueueState {
     // From a frame to its place.
     pub frame_delay: u32,
@@ -45,77 +48,58 @@ pub struct QueueState {
     pub first_incorrect_count: u32,
 }
 
-#[derive(Clone, Copy)]
+// A setup's answer. One that is refused hands back a fresh queue too, with predictor and delay 0:
+// so the two stand side by side, and are no `Result`.
+#[derive(Clone, Copy, Debug, PartialEq, Eq)]
 pub struct Opened {
-    pub no: u32,
+    pub refused: Option<Refusal>,
     pub predictor: u32,
     pub state: QueueState,
 }
 
-#[derive(Clone, Copy)]
+// What the other calls answer where they are not refused.
+#[derive(Clone, Copy, Debug, PartialEq, Eq)]
 pub struct Added {
-    pub no: u32,
     pub place: i32,
     pub state: QueueState,
 }
 
-#[derive(Clone, Copy)]
-pub struct Served {
-    pub no: u32,
-    pub word: u32,
-    pub confirmed: bool,
-    pub state: QueueState,
-}
-
-#[derive(Clone, Copy)]
-pub struct Found {
-    pub no: u32,
-    pub input: PlayerInput,
-}
-
-#[derive(Clone, Copy)]
-pub struct Discarded {
-    pub no: u32,
-    pub state: QueueState,
-}
-
-#[derive(Clone, Copy)]
-pub struct Announced {
-    pub no: u32,
-    pub first: i32,
-    pub count: u32,
-    pub word: u32,
-    pub state: QueueState,
-}
-
-// What the steps below a call answer: a place as a count, 0 where the word was tossed, and the
-// state after it; a word, whether it is confirmed, and the state after it.
-#[derive(Clone, Copy)]
-pub struct Stored {
-    pub place: u32,
-    pub state: QueueState,
-}
-
-#[derive(Clone, Copy)]
+#[derive(Clone, Copy, Debug, PartialEq, Eq)]
 pub struct Asked {
     pub word: u32,
     pub confirmed: bool,
     pub state: QueueState,
 }
 
+#[derive(Clone, Copy, Debug, PartialEq, Eq)]
+pub struct Announced {
+    pub first: i32,
+    pub count: u32,
+    pub word: u32,
+    pub state: QueueState,
+}
+
+// What the step below an add answers: the place as a count, 0 where the word was tossed, and the
+// state after it.
+#[derive(Clone, Copy, Debug, PartialEq, Eq)]
+pub struct Stored {
+    pub place: u32,
+    pub state: QueueState,
+}
+
 // A fresh queue: 1 where predictor or delay is out of range.
 pub fn new(predictor: u32, delay: u32) -> Opened
-    ensures { result ≡ calls.opened predictor delay }
+    ensures { opened_said result ≡ calls.opened predictor delay }
 {
     if opens(predictor, delay) {
         return Opened {
-            no: 0,
+            refused: None,
             predictor,
             state: steps::fresh_state(delay),
         };
     }
     Opened {
-        no: frame_info::refusal::OUT_OF_RANGE,
+        refused: Some(Refusal::OutOfRange),
         predictor: 0,
         state: steps::fresh_state(0),
     }
@@ -123,90 +107,68 @@ pub fn new(predictor: u32, delay: u32) -> Opened
 
 // Stores a hand's word, with the fills before it: 7, 6, 3, 4. Answers its place, -1 where it is
 // tossed.
-pub fn add_input(words: &mut [u32], base: usize, s: QueueState, input: PlayerInput) -> Added
+pub fn add_input(
+    words: &mut [u32],
+    base: usize,
+    s: QueueState,
+    input: PlayerInput,
+) -> Result<Added, Refusal>
     requires { Whole words.old base s }
-    ensures { (result ≡ calls.add_input words.old base s input)
+    ensures { (added_said s result ≡ calls.add_input words.old base s input)
         × (words.new ≡ calls.input_words words.old base s input) }
 {
     let count = count_of(input.frame);
-    let no = add_refusal(s, count);
-    if no != 0 {
-        return Added {
-            no,
-            place: NULL_FRAME,
-            state: s,
-        };
-    }
+    add_refusal(s, count)?;
     let stored = store(words, base, s, count - 1, input.input);
     let state = stored.state;
-    Added {
-        no: 0,
+    Ok(Added {
         place: frame_of(stored.place),
         state,
-    }
+    })
 }
 
 // The word of a frame, confirmed or predicted: 7, 13, 14. The predictor is the caller's; a number
 // that is no predictor's is taken for 2, the jog cleared.
-pub fn input(words: &[u32], base: usize, s: QueueState, predictor: u32, frame: i32) -> Served
+pub fn input(
+    words: &[u32],
+    base: usize,
+    s: QueueState,
+    predictor: u32,
+    frame: i32,
+) -> Result<Asked, Refusal>
     requires { Whole words.now base s }
-    ensures { result ≡ calls.served words.now base s predictor frame }
+    ensures { served_said s result ≡ calls.served words.now base s predictor frame }
 {
     let count = count_of(frame);
-    let no = input_refusal(s, count);
-    if no != 0 {
-        return Served {
-            no,
-            word: BLANK,
-            confirmed: false,
-            state: s,
-        };
-    }
-    let asked = ask(words, base, s, predictor, count);
-    let state = asked.state;
-    Served {
-        no: 0,
-        word: asked.word,
-        confirmed: asked.confirmed,
-        state,
-    }
+    input_refusal(s, count)?;
+    Ok(ask(words, base, s, predictor, count))
 }
 
 // The stored word of a frame, even after a discard: 7, 11.
-pub fn confirmed_input(words: &[u32], base: usize, s: QueueState, frame: i32) -> Found
+pub fn confirmed_input(
+    words: &[u32],
+    base: usize,
+    s: QueueState,
+    frame: i32,
+) -> Result<PlayerInput, Refusal>
     requires { Whole words.now base s }
-    ensures { result ≡ calls.found words.now base s frame }
+    ensures { found_said result ≡ calls.found words.now base s frame }
 {
     let count = count_of(frame);
-    let no = found_refusal(s, count);
-    if no != 0 {
-        return Found {
-            no,
-            input: PlayerInput::blank_input(NULL_FRAME),
-        };
-    }
+    found_refusal(s, count)?;
     let at = base + (count - 1) as usize % INPUT_QUEUE_LENGTH;
-    Found {
-        no: 0,
-        input: PlayerInput::new(frame, words[at]),
-    }
+    Ok(PlayerInput::new(frame, words[at]))
 }
 
 // Lets go of the places before a frame: 7.
-pub fn discard_confirmed_frames(s: QueueState, frame: i32) -> Discarded
-    ensures { result ≡ calls.discarded s frame }
+pub fn discard_confirmed_frames(s: QueueState, frame: i32) -> Result<QueueState, Refusal>
+    ensures { discarded_said s result ≡ calls.discarded s frame }
 {
     let count = count_of(frame);
     if count == 0 {
-        return Discarded {
-            no: frame_info::refusal::FRAME_BELOW_ZERO,
-            state: s,
-        };
+        return Err(Refusal::FrameBelowZero);
     }
-    Discarded {
-        no: 0,
-        state: discard(s, count - 1),
-    }
+    Ok(discard(s, count - 1))
 }
 
 // Clears prediction, mismatch and last requested.
@@ -217,25 +179,29 @@ pub fn reset_prediction(s: QueueState) -> QueueState
 }
 
 // Another delay: 1 above 60. Announces the copies that a rise will make, and stores nothing.
-pub fn set_frame_delay(words: &[u32], base: usize, s: QueueState, delay: u32) -> Announced
+pub fn set_frame_delay(
+    words: &[u32],
+    base: usize,
+    s: QueueState,
+    delay: u32,
+) -> Result<Announced, Refusal>
     requires { Whole words.now base s }
-    ensures { result ≡ calls.delayed_to words.now base s delay }
+    ensures { announced_said s result ≡ calls.delayed_to words.now base s delay }
 {
     if delay > MAX_DELAY {
-        return unannounced(frame_info::refusal::OUT_OF_RANGE, s);
+        return Err(Refusal::OutOfRange);
     }
     let state = steps::with_delay(s, delay);
     if !announces(s, delay) {
-        return unannounced(0, state);
+        return Ok(unannounced(state));
     }
     let added = s.last_added_count;
-    Announced {
-        no: 0,
+    Ok(Announced {
         first: frame_of(added + 1),
         count: delay - s.frame_delay,
         word: steps::newest_word(words, base, added),
         state,
-    }
+    })
 }
 
 // The first mismatch, -1 where there is none.
@@ -249,28 +215,21 @@ pub fn first_incorrect_frame(s: QueueState) -> i32
 fn opens(predictor: u32, delay: u32) -> bool
     ensures { result ≡ calls.opens predictor delay }
 {
-    if predictor < PREDICTORS {
-        return delay <= MAX_DELAY;
-    }
-    false
+    predictor < PREDICTORS && delay <= MAX_DELAY
 }
 
 // A rise, with something stored.
 fn announces(s: QueueState, delay: u32) -> bool
     ensures { result ≡ calls.announces s delay }
 {
-    if s.frame_delay < delay {
-        return s.last_added_count != 0;
-    }
-    false
+    s.frame_delay < delay && s.last_added_count != 0
 }
 
 // A delay change that announces nothing.
-fn unannounced(no: u32, state: QueueState) -> Announced
-    ensures { result ≡ calls.unannounced no state }
+fn unannounced(state: QueueState) -> Announced
+    ensures { announced_in result ≡ calls.unannounced done state }
 {
     Announced {
-        no,
         first: NULL_FRAME,
         count: 0,
         word: BLANK,
@@ -283,10 +242,7 @@ fn out_of_turn(s: QueueState, count: u32) -> bool
     requires { s.last_user_count ≤ last_count }
     ensures { result ≡ calls.out_of_turn s count }
 {
-    if s.last_user_count == 0 {
-        return false;
-    }
-    s.last_user_count + 1 != count
+    s.last_user_count != 0 && s.last_user_count + 1 != count
 }
 
 // Whether a word and its fills would make more undiscarded than the ring holds.
@@ -301,54 +257,59 @@ fn overfull(s: QueueState, frame: u32) -> bool
     INPUT_QUEUE_LENGTH < (place + 1 - s.oldest) as usize
 }
 
-// The number by which an input is refused, 0 for none.
-pub fn add_refusal(s: QueueState, count: u32) -> u32
+// Why an input is refused, if it is.
+pub fn add_refusal(s: QueueState, count: u32) -> Result<(), Refusal>
     requires { Sane s }
-    ensures { result ≡ calls.add_refusal s count }
+    ensures { number_in result ≡ calls.add_refusal s count }
 {
     if count == 0 {
-        return frame_info::refusal::FRAME_BELOW_ZERO;
+        return Err(Refusal::FrameBelowZero);
     }
     if count > LAST_COUNT {
-        return frame_info::refusal::FRAME_TOO_HIGH;
+        return Err(Refusal::FrameTooHigh);
     }
     if out_of_turn(s, count) {
-        return frame_info::refusal::NOT_NEXT_FRAME;
+        return Err(Refusal::NotNextFrame);
     }
     if overfull(s, count - 1) {
-        return frame_info::refusal::QUEUE_FULL;
+        return Err(Refusal::QueueFull);
     }
-    0
+    Ok(())
 }
 
-// The number by which a request is refused, 0 for none.
-pub fn input_refusal(s: QueueState, count: u32) -> u32
-    ensures { result ≡ calls.input_refusal s count }
+// Why a request is refused, if it is.
+pub fn input_refusal(s: QueueState, count: u32) -> Result<(), Refusal>
+    ensures { number_in result ≡ calls.input_refusal s count }
 {
     if count == 0 {
-        return frame_info::refusal::FRAME_BELOW_ZERO;
+        return Err(Refusal::FrameBelowZero);
     }
     if s.first_incorrect_count != 0 {
-        return frame_info::refusal::MISMATCH_STANDS;
+        return Err(Refusal::MismatchStands);
     }
     if count <= s.oldest {
-        return frame_info::refusal::BELOW_OLDEST;
+        return Err(Refusal::BelowOldest);
     }
-    0
+    Ok(())
 }
 
-// The number by which a confirmed lookup is refused, 0 for none.
-pub fn found_refusal(s: QueueState, count: u32) -> u32
-    ensures { result ≡ calls.found_refusal s count }
+// Whether a frame is one of the newest places that the ring has room for.
+fn holds(s: QueueState, frame: u32) -> bool
+    ensures { result ≡ calls.holds s frame }
+{
+    frame < s.last_added_count && (s.last_added_count - frame) as usize <= INPUT_QUEUE_LENGTH
+}
+
+// Why a confirmed lookup is refused, if it is.
+#[tactic(auto, unfolding(crate::specs::Calls::found_refusal))]
+pub fn found_refusal(s: QueueState, count: u32) -> Result<(), Refusal>
+    ensures { number_in result ≡ calls.found_refusal s count }
 {
     if count == 0 {
-        return frame_info::refusal::FRAME_BELOW_ZERO;
+        return Err(Refusal::FrameBelowZero);
     }
-    let frame = count - 1;
-    if frame < s.last_added_count {
-        if (s.last_added_count - frame) as usize <= INPUT_QUEUE_LENGTH {
-            return 0;
-        }
+    if !holds(s, count - 1) {
+        return Err(Refusal::NotConfirmed);
     }
-    frame_info::refusal::NOT_CONFIRMED
+    Ok(())
 }

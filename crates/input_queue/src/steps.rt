@@ -8,7 +8,7 @@ ghost use Rattle.input_queue.specs.Ring.{queue_length, word_at, put_word, fill_w
 ghost use Rattle.input_queue.specs.Whole.{Whole};
 
 use crate::{Asked, INPUT_QUEUE_LENGTH, QueueState, Stored};
-use frame_info::{BLANK, NULL_FRAME, PlayerInput, greater, lesser, one_less, predict};
+use frame_info::{BLANK, NULL_FRAME, PlayerInput, predict};
 
 // A queue with nothing in it.
 pub fn fresh_state(delay: u32) -> QueueState
@@ -173,7 +173,7 @@ pub fn ask(words: &[u32], base: usize, s: QueueState, predictor: u32, count: u32
     requires { Whole words.now base s }
     ensures { result ≡ queue.asking (predicted predictor) (word_at words.now base) s (count - 1) }
 {
-    let frame = one_less(count);
+    let frame = count.saturating_sub(1);
     let last = frame + 1;
     let added = s.last_added_count;
     if s.prediction_count != 0 {
@@ -217,14 +217,15 @@ fn capped(s: QueueState, frame: u32) -> u32
     if s.last_requested_count == 0 {
         return frame;
     }
-    lesser(frame, one_less(s.last_requested_count))
+    frame.min(s.last_requested_count.saturating_sub(1))
 }
 
 // The oldest kept place after a discard.
 fn oldest_after(s: QueueState, frame: u32) -> u32
     ensures { result ≡ queue.oldest_after s frame }
 {
-    greater(s.oldest, lesser(frame, one_less(s.last_added_count)))
+    s.oldest
+        .max(frame.min(s.last_added_count.saturating_sub(1)))
 }
 
 // Keeps the places from a frame on.

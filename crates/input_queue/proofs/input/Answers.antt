@@ -1,9 +1,10 @@
 use Rattle.input_queue.proofs.Answers.{answers}
 use borrow.Author.Rules.{rules}
+use Rattle.std.proofs.lemmas.Result.{err_from_is_err_and}
 use Rattle.input_queue.proofs.input.Goals as goal
-
-pub returns-then-no-ne0 : goal.returns-then-no-ne0
-returns-then-no-ne0 c = search (rules, answers)
 
 pub returns : goal.returns
 returns c = search (rules, answers)
+
+pub returns-in_err-input_refusal : goal.returns-in_err-input_refusal
+returns-in_err-input_refusal c = let p = err_from_is_err_and c.from_residual.result c.from_residual.ensures.1 in rw (p.1, p.2) (search (rules, answers))
