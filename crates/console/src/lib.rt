@@ -6,7 +6,7 @@ ghost use Rattle.console.specs.Step.{start, extended, moved, sealed, kind_of, st
 
 use frame_info::box_of;
 
-#[derive(Clone, Copy)]
+#[derive(Clone, Copy, Debug, PartialEq, Eq)]
 pub struct Console {
     pub head: u32,
     pub kind: u32,
