@@ -14,32 +14,32 @@ abbrev pub put : TimeSync → ℕ → ℤ → ℤ → TimeSync
 put s i l r = record { local = set s.local i l; remote = set s.remote i r }
 
 module _ (s : TimeSync) (l r : ℤ) where
-  none : (f : ℤ) → None ≡ slot_in (slot_of f) → ◌≡◌ {A = Advanced} (record { no = 7; sync = s }) (advanced s f l r)
+  pub advanced_none : (f : ℤ) → None ≡ slot_in (slot_of f) → ◌≡◌ {A = Advanced} (record { no = 7; sync = s }) (advanced s f l r)
   unfolding advanced
-  none (pos n) e = let h : n % 30 < 30 = omega arith in let k = rw (lt-ltb (n % 30) 30 h) at e in cc
-  none (negsuc n) e = refl
+  advanced_none (pos n) e = let h : n % 30 < 30 = omega arith in let k = rw (lt-ltb (n % 30) 30 h) at e in cc
+  advanced_none (negsuc n) e = refl
 
-  some : (f : ℤ) (i : ℕ) → Some i ≡ slot_in (slot_of f) → ◌≡◌ {A = Advanced} (record { no = 0; sync = put s i l r }) (advanced s f l r)
+  pub advanced_some : (f : ℤ) (i : ℕ) → Some i ≡ slot_in (slot_of f) → ◌≡◌ {A = Advanced} (record { no = 0; sync = put s i l r }) (advanced s f l r)
   unfolding advanced written
-  some (pos n) i e =
+  advanced_some (pos n) i e =
       let h : n % 30 < 30 = omega arith in
       let k = rw (lt-ltb (n % 30) 30 h) at e in
       let j : i ≡ n % 30 = cc in
       rw j
-  some (negsuc n) i e = let h : ⊥ = cc in absurd h
+  advanced_some (negsuc n) i e = let h : ⊥ = cc in absurd h
 
   -- the same, number and windows apart
   pub none_no : (f : ℤ) → None ≡ slot_in (slot_of f) → 7 ≡ (advanced s f l r).no
-  none_no f e = ap (λ (a : Advanced). a.no) (none f e)
+  none_no f e = ap (λ (a : Advanced). a.no) (advanced_none f e)
 
   pub none_sync : (f : ℤ) → None ≡ slot_in (slot_of f) → s ≡ (advanced s f l r).sync
-  none_sync f e = ap (λ (a : Advanced). a.sync) (none f e)
+  none_sync f e = ap (λ (a : Advanced). a.sync) (advanced_none f e)
 
   pub some_no : (f : ℤ) (i : ℕ) → Some i ≡ slot_in (slot_of f) → 0 ≡ (advanced s f l r).no
-  some_no f i e = ap (λ (a : Advanced). a.no) (some f i e)
+  some_no f i e = ap (λ (a : Advanced). a.no) (advanced_some f i e)
 
   pub some_sync : (f : ℤ) (i : ℕ) → Some i ≡ slot_in (slot_of f) → put s i l r ≡ (advanced s f l r).sync
-  some_sync f i e = ap (λ (a : Advanced). a.sync) (some f i e)
+  some_sync f i e = ap (λ (a : Advanced). a.sync) (advanced_some f i e)
 
   -- what is refused leaves the windows as they were
   pub refused_is : (f : ℤ) (e : Refusal) → number_of e ≡ (advanced s f l r).no → ◌≡◌ {A = Advanced} (record { no = number_of e; sync = s }) (advanced s f l r)
