@@ -1,4 +1,5 @@
-// How a word that is served stands: ggrs's `InputStatus`, as a number, since lists of numbers hold it.
+// How a word that is served stands: ggrs's `InputStatus`.
+// Kept: a number and no enum, since C lends the list of them to `layer_request`.
 pub type InputStatus = u32;
 
 // The word was stored.
