@@ -28,7 +28,7 @@ unfolding fill
 fill_ahead zero s w h = h
 fill_ahead (suc n) s w h = put_ahead (fill n s w) w (fill_ahead n s w h)
 
--- one copy more, and none
+-- one copy more
 pub fill_more : (k n : ℕ) (s : QueueState) (w : ℕ) → k ≡ n + 1 → fill k s w ≡ put (fill n s w) w
 unfolding fill
 fill_more k n s w e = rw (e, add-one)
