@@ -1,9 +1,9 @@
-use Rattle.sheet.proofs.Decoding.{pair}
 use borrow.Author.Rules.{rules}
-use Rattle.sheet.proofs.pair_at.Goals as goal
+use Rattle.sheet.proofs.Decoding.{pair}
+use Rattle.sheet.proofs.byte_of.Goals as goal
 
-pub returns-in_default : goal.returns-in_default
-returns-in_default c = search (rules, pair)
+pub unwrap-requires : goal.unwrap-requires
+unwrap-requires c = search (rules, pair)
 
 pub overflow_cast-result : goal.overflow_cast-result
 overflow_cast-result c = search (rules, pair)
