@@ -4,7 +4,7 @@ use native.Mathlib.Omega.{arith}
 use native.Mathlib.Numerals.{add-one}
 use mathlib.Core.Path.{◌≡◌, ap, ap₂, sym, ◌∙◌}
 use mathlib.Core.List.{List, ◌++◌, append_assoc}
-use lib.ListN.{length, take, drop, get_or, set, length-append, length-drop}
+use lib.ListN.{length, take, drop, get_or, set}
 use lib.Seq.{take-suc, drop-cons, set_at, take_at, drop_at, drop-drop, take-add, take-length, take-append_seam, drop-append_seam, length-take-le}
 
 module _ {A : Type 0} where
@@ -21,10 +21,6 @@ module _ {A : Type 0} where
   -- all of s
   pub front_all : (d s : List A) → front d s (length s) ≡ s ++ drop (length s) d
   front_all d s = ap (λ (l : List A). l ++ drop (length s) d) (take-length s)
-
-  pub length_front : (d s : List A) (i : ℕ) → i ≤ length s → i ≤ length d → length (front d s i) ≡ length d
-  length_front d s i h k =
-      omega (arith, length-append (take i s) (drop i d), length-take-le i s h, length-drop i d)
 
   pub take_front : (d s : List A) (i : ℕ) → i ≤ length s → take i (front d s i) ≡ take i s
   take_front d s i h = take_at (take i s) (drop i d) i (length-take-le i s h)

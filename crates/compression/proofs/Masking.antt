@@ -1,41 +1,16 @@
--- The XOR's laws over the byte, and what follows for masked bytes. Assumes nothing.
-use Prim.Native.Nat.{ℕ, zero, suc, ◌+◌, ◌*◌, ◌/◌, ◌%◌, ◌<◌, min}
-use native.Mathlib.Nat.{div-add-mod', mod-lt}
+-- Masked bytes, and the XOR's law that they stand on. Assumes nothing.
+use Prim.Native.Nat.{ℕ, zero, suc, ◌<◌, min}
 use native.Mathlib.Omega.{arith}
-use mathlib.Core.Path.{◌≡◌, refl, ap, ap₂, ◌∙◌}
+use mathlib.Core.Path.{◌≡◌, refl, ap, ap₂, sym, ◌∙◌}
 use mathlib.Core.List.{List, [], ◌∷◌}
 use Prim.{absurd}
 use lib.ListN.{length, drop, get_or}
-use lib.Arith.{bin_ind, digits_div, digits_mod}
-use lib.Bits.{bit_xor, differ, xor_step}
+use lib.Bits.{bit_xor, xor_assoc, xor_self, xor_zero_l}
 use Rattle.compression.specs.Layout.{masked}
-
-differ_lt : (x y : ℕ) → x < 2 → y < 2 → differ x y < 2
-differ_lt zero y h k = k
-differ_lt (suc x) zero h k = h
-differ_lt (suc x) (suc y) h k = differ_lt x y (omega arith) (omega arith)
-
-differ_twice : (x y : ℕ) → x < 2 → y < 2 → differ x (differ x y) ≡ y
-differ_twice zero y h k = refl
-differ_twice (suc zero) zero h k = refl
-differ_twice (suc zero) (suc zero) h k = refl
-differ_twice (suc zero) (suc (suc y)) h k = absurd (omega arith)
-differ_twice (suc (suc x)) y h k = absurd (omega arith)
 
 -- the same byte twice gives the byte back
 pub xor_twice : (b x : ℕ) → bit_xor b (bit_xor b x) ≡ x
-xor_twice =
-    bin_ind (λ (n : ℕ). (x : ℕ) → bit_xor n (bit_xor n x) ≡ x) (λ x. refl)
-    (λ n ih x.
-    let low : differ (n % 2) (x % 2) < 2 = differ_lt (n % 2) (x % 2) (mod-lt n (omega arith)) (mod-lt x (omega arith)) in
-    let h : bit_xor n x / 2 ≡ bit_xor (n / 2) (x / 2) =
-    ap (λ (k : ℕ). k / 2) (xor_step n x) ∙ digits_div (bit_xor (n / 2) (x / 2)) low in
-    let l : bit_xor n x % 2 ≡ differ (n % 2) (x % 2) =
-    ap (λ (k : ℕ). k % 2) (xor_step n x) ∙ digits_mod (bit_xor (n / 2) (x / 2)) low in
-    xor_step n (bit_xor n x)
-    ∙ ap₂ (λ (a c : ℕ). bit_xor (n / 2) a * 2 + differ (n % 2) c) h l
-    ∙ ap₂ (λ (a c : ℕ). a * 2 + c) (ih (x / 2)) (differ_twice (n % 2) (x % 2) (mod-lt n (omega arith)) (mod-lt x (omega arith)))
-    ∙ div-add-mod' x 2)
+xor_twice b x = sym (xor_assoc b b x) ∙ ap (λ (n : ℕ). bit_xor n x) (xor_self b) ∙ xor_zero_l x
 
 -- and so do masked bytes, with the same base
 pub mask_twice : (base bytes : List ℕ) → masked base (masked base bytes) ≡ bytes

@@ -1,4 +1,4 @@
--- One record, packed and unpacked: what the runs of bytes that are laid come to. Assumes nothing.
+-- One record: what the bytes that are laid come to. Assumes nothing.
 use Prim.Native.Nat.{ℕ, suc, ◌+◌, ◌-◌, ◌/◌, ◌%◌, ◌<◌, ◌≤◌, min}
 use native.Mathlib.Omega.{arith}
 use mathlib.Core.Path.{◌≡◌, ap, ap₂, sym, ◌∙◌}

@@ -117,6 +117,7 @@ fn mask(base: &[u8], bytes: &[u8], out: &mut [u8])
 }
 
 // One input's record goes to the front of out: its length, and its bytes masked by the base.
+#[tactic(auto, using(crate::proofs::Runs::record_laid))]
 fn pack_one(base: &[u8], input: &[u8], out: &mut [u8])
     requires { (length input.now < length_limit) × (2 + length input.now ≤ length out.old) }
     ensures { out.new ≡ over (record_of base.now input.now) out.old }
@@ -162,6 +163,8 @@ fn sums_to(lengths: &[u16], n: usize) -> bool
 
 // The packet of the inputs that stand one after the other in pending, with these lengths, goes to the front of out.
 // Answers how many bytes it has: 18, 20.
+// Kept: bytes and lengths are two lists, since the lists that both calls are lent stay as they are, and no heap is here
+// to hold a list of lists.
 #[tactic(auto, using(crate::proofs::Packing::length_packed), unfolding(crate::specs::Promise::pack_answer, crate::specs::Promise::pack_out, crate::specs::Promise::left))]
 pub fn delta_encode<'a>(
     reference: &'a [u8],
