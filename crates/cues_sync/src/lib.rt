@@ -2,50 +2,40 @@
 #![tactic(auto)]
 
 ghost use Rattle.std.specs.Prelude.{◌+◌, ◌≤◌, ◌≡◌, length};
+ghost use Rattle.sheet.specs.Calls.{sync_number};
 ghost use Rattle.time_sync.specs.Windows.{fresh};
 ghost use Rattle.cues_sync.specs.Sync as windows;
 
-use cues_text::{frame_arg, put_number, put_word_value, tell_frame, tell_number};
+use cues_text::{
+    Told, frame_arg, put_number, put_word_value, tell_frame, tell_number, tell_refusal,
+};
 use digits::put_text;
+use sheet::calls::SyncCall;
 use time_sync::{Reading, TimeSync};
 
-// The calls of time sync, by their numbers within the part.
-const OPEN: u32 = 0;
-
-const ADVANCE: u32 = 1;
-
-const AVERAGE: u32 = 2;
-
-const AVERAGES: u32 = 3;
-
-// What a call leaves: the windows, and where its answer ends.
-#[derive(Clone, Copy)]
-pub struct Told {
-    pub sync: TimeSync,
-    pub at: usize,
-}
-
-fn open(out: &mut [u8], at: usize) -> Told
+fn open(out: &mut [u8], at: usize) -> Told<TimeSync>
     requires { at + 64 ≤ length out.old }
-    ensures { (result.sync ≡ fresh) × (result.at ≤ at + 63) }
+    ensures { (result.part ≡ fresh) × (result.at ≤ at + 63) }
 {
-    let end = tell_number(out, at, 0);
     Told {
-        sync: TimeSync::new(),
-        at: end,
+        part: TimeSync::new(),
+        at: tell_number(out, at, 0),
     }
 }
 
-fn advance(args: &[u64], sync: TimeSync, out: &mut [u8], at: usize) -> Told
+fn advance(args: &[u64], sync: TimeSync, out: &mut [u8], at: usize) -> Told<TimeSync>
     requires { (2048 ≤ length args.now) × (at + 64 ≤ length out.old) }
-    ensures { (result.sync ≡ windows.advanced_by args.now sync) × (result.at ≤ at + 63) }
+    ensures { (result.part ≡ windows.advanced_by args.now sync) × (result.at ≤ at + 63) }
 {
-    let a = sync.advance_frame(frame_arg(args, 0), frame_arg(args, 1), frame_arg(args, 2));
-    let next = a.sync;
-    let end = tell_number(out, at, a.no);
-    Told {
-        sync: next,
-        at: end,
+    match sync.advance_frame(frame_arg(args, 0), frame_arg(args, 1), frame_arg(args, 2)) {
+        Ok(part) => Told {
+            part,
+            at: tell_number(out, at, 0),
+        },
+        Err(refusal) => Told {
+            part: sync,
+            at: tell_refusal(out, at, refusal),
+        },
     }
 }
 
@@ -53,7 +43,7 @@ fn average(sync: TimeSync, out: &mut [u8], at: usize) -> usize
     requires { at + 64 ≤ length out.old }
     ensures { result ≤ at + 63 }
 {
-    tell_frame(out, at, 0, sync.average_frame_advantage())
+    tell_frame(out, at, sync.average_frame_advantage())
 }
 
 fn averages(sync: TimeSync, out: &mut [u8], at: usize) -> usize
@@ -62,8 +52,8 @@ fn averages(sync: TimeSync, out: &mut [u8], at: usize) -> usize
 {
     let both = sync.averages();
     let number = put_number(out, at, 0);
-    let local = put_word_value(out, number, f32::to_bits(both.local));
-    put_word_value(out, local, f32::to_bits(both.remote))
+    let local = put_word_value(out, number, both.local.to_bits());
+    put_word_value(out, local, both.remote.to_bits())
 }
 
 // The way it leans, and how far.
@@ -81,36 +71,31 @@ fn reading(sync: TimeSync, out: &mut [u8], at: usize) -> usize
 {
     match sync.reading() {
         Reading::Even => put_text(out, at, b"0 even"),
-        Reading::Over(size) => tell_size(out, at, b"0 over", f32::to_bits(size)),
-        Reading::Under(size) => tell_size(out, at, b"0 under", f32::to_bits(size)),
+        Reading::Over(size) => tell_size(out, at, b"0 over", size.to_bits()),
+        Reading::Under(size) => tell_size(out, at, b"0 under", size.to_bits()),
     }
 }
 
-// The calls that only look: the windows stay as they are.
-fn look(call: u32, sync: TimeSync, out: &mut [u8], at: usize) -> usize
-    requires { at + 64 ≤ length out.old }
-    ensures { result ≤ at + 63 }
-{
-    if call == AVERAGE {
-        return average(sync, out, at);
-    }
-    if call == AVERAGES {
-        return averages(sync, out, at);
-    }
-    reading(sync, out, at)
-}
-
-// Any call of time sync, by its number within the part.
-pub fn make(call: u32, args: &[u64], sync: TimeSync, out: &mut [u8], at: usize) -> Told
+// Any call of time sync. The last three only look: the windows stay as they are.
+pub fn make(
+    call: SyncCall,
+    args: &[u64],
+    sync: TimeSync,
+    out: &mut [u8],
+    at: usize,
+) -> Told<TimeSync>
     requires { (2048 ≤ length args.now) × (at + 64 ≤ length out.old) }
-    ensures { (result.sync ≡ windows.after call args.now sync) × (result.at ≤ at + 63) }
+    ensures { (result.part ≡ windows.after (sync_number call) args.now sync) × (result.at ≤ at + 63) }
 {
-    if call == OPEN {
-        return open(out, at);
+    let looked = match call {
+        SyncCall::Open => return open(out, at),
+        SyncCall::Advance => return advance(args, sync, out, at),
+        SyncCall::Average => average(sync, out, at),
+        SyncCall::Averages => averages(sync, out, at),
+        SyncCall::Reading => reading(sync, out, at),
+    };
+    Told {
+        part: sync,
+        at: looked,
     }
-    if call == ADVANCE {
-        return advance(args, sync, out, at);
-    }
-    let end = look(call, sync, out, at);
-    Told { sync, at: end }
 }

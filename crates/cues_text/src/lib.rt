@@ -3,7 +3,7 @@
 #![tactic(auto)]
 
 ghost use Rattle.std.specs.Prelude.{◌≡◌, [], ◌+◌, ◌≤◌, ◌<◌, length};
-ghost use Rattle.frame_info.specs.Refusal.{done, number_of};
+ghost use Rattle.frame_info.specs.Refusal.{done, number_of, number_given};
 ghost use Rattle.digits.specs.Digits.{decimal_text};
 ghost use Rattle.cues_text.specs.Text as text;
 ghost use Rattle.cues_text.specs.Text.{Puts};
@@ -149,6 +149,14 @@ pub fn tell_refusal(out: &mut [u8], at: usize, refusal: Refusal) -> usize
     ensures { Puts (text.answer_text (number_of refusal) []) 63 at out.old out.new result }
 {
     tell_number(out, at, refusal.number())
+}
+
+// A setup, which leaves a fresh part even where it is refused.
+pub fn tell_setup(out: &mut [u8], at: usize, refused: Option<Refusal>) -> usize
+    requires { at + 64 ≤ length out.old }
+    ensures { Puts (text.answer_text (number_given refused) []) 63 at out.old out.new result }
+{
+    tell_number(out, at, refused.map_or(0, Refusal::number))
 }
 
 // A call that is done: 0, and what it tells.
