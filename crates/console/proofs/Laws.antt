@@ -1,8 +1,9 @@
--- The wrap and the rotation, over 2^32, and one turn of a frame's step. Assumes nothing.
-use Rattle.std.proofs.Common.{◌≡◌, ℕ, suc, ◌+◌, ◌-◌, ◌*◌, ◌/◌, ◌%◌, ◌^◌, ◌<◌, ◌≤◌, List, [], length, get_or, drop, pos, negsuc, ◌+ℤ◌, refl, ap, ⊎_elim, add-one, arith, drop_of_length-le, drop-cons}
+-- The wrap and the rotation, over 2^32. Assumes nothing.
+use Rattle.std.proofs.Common.{◌≡◌, ℕ, suc, ◌+◌, ◌-◌, ◌*◌, ◌/◌, ◌%◌, ◌^◌, ◌<◌, pos, negsuc, ◌+ℤ◌, ap, ⊎_elim, arith}
+use Rattle.std.specs.Int.{w32, rotate_left}
+use Rattle.std.proofs.lemmas.Nat.{or_shifted}
 use Rattle.frame_info.proofs.Split.{split_ltb}
-use Rattle.console.specs.declared.Console.{Console}
-use Rattle.console.specs.Step.{wrapped, moved, extended, rotated, sealed, head_after, seal_after, kind_of, step_of}
+use Rattle.console.specs.Step.{wrapped, moved, extended, rotated}
 
 -- adding a number below 0 modulo 2^32 is adding its 32 bits
 wrap_below : (h n : ℕ) → h < 2 ^ 32 → n < 2 ^ 32 → (h + (2 ^ 32 - 1 - n)) % 2 ^ 32 ≡ wrapped (pos h +ℤ negsuc n)
@@ -19,33 +20,8 @@ moves h w p =
     (split_ltb (w % 256) 128)
 
 -- the parts that a rotation moves
-pub turns : (x : ℕ) → x < 2 ^ 32 → x % 2 ^ 27 * 2 ^ 5 + x / 2 ^ 27 ≡ rotated x
-turns x p = omega arith
-
--- the loop over the seats: what is still to come takes the head and the seal where the whole row takes them
-pub record Stepping (l : List ℕ) (head₀ seal₀ head seal i : ℕ) : Type 0 where
-  pub upto : i ≤ length l
-  pub heads : head_after head (drop i l) ≡ head_after head₀ l
-  pub seals : seal_after seal (drop i l) ≡ seal_after seal₀ l
-
-pub step_start : (l : List ℕ) (head seal : ℕ) → Stepping l head seal head seal 0
-step_start l head seal = record { upto = omega arith; heads = refl; seals = refl }
-
-module _ (l : List ℕ) (head₀ seal₀ head seal i : ℕ) (s : Stepping l head₀ seal₀ head seal i) where
-  pub step_turn : (head' seal' : ℕ) → i < length l → head' ≡ moved head (get_or l i 0) → seal' ≡ sealed seal (get_or l i 0) → Stepping l head₀ seal₀ head' seal' (i + 1)
-  step_turn head' seal' p a b =
-      record {
-        upto = omega arith;
-        heads = rw (a, add-one) (rw (drop-cons l i 0) at s.heads);
-        seals = rw (b, add-one) (rw (drop-cons l i 0) at s.seals);
-      }
-
-  pub step_end : (c : Console) (kind : ℕ) → length l ≤ i → head₀ ≡ c.head → seal₀ ≡ c.seal → kind ≡ kind_of l → record { head = head; kind = kind; seal = seal } ≡ step_of c l
-  unfolding step_of
-  step_end c kind p a b k =
-      let d : drop i l ≡ [] = drop_of_length-le l p in
-      let h : head ≡ head_after c.head l = rw (d, a) at s.heads in
-      let x : seal ≡ seal_after c.seal l = rw (d, b) at s.seals in
-      rw (h, x, k)
-
-pub ruleset steps = (step_start, step_turn, step_end)
+pub turns : (x : ℕ) → x < 2 ^ 32 → rotate_left w32 x 5 ≡ rotated x
+turns x p =
+    let e : x * 2 ^ 5 % 2 ^ 32 ≡ x % 2 ^ 27 * 2 ^ 5 = omega arith in
+    let h : x / 2 ^ 27 < 2 ^ 5 = omega arith in
+    rw (e, or_shifted (x % 2 ^ 27) 5 (x / 2 ^ 27) h) (omega arith)

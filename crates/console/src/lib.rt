@@ -6,7 +6,7 @@ ghost use Rattle.console.specs.Step.{start, extended, moved, sealed, kind_of, st
 
 use frame_info::box_of;
 
-#[derive(Clone, Copy)]
+#[derive(Clone, Copy, Debug, Default, PartialEq, Eq)]
 pub struct Console {
     pub head: u32,
     pub kind: u32,
@@ -17,28 +17,25 @@ impl Console {
     pub fn new() -> Console
         ensures { result ≡ start }
     {
-        Console {
-            head: 0,
-            kind: 0,
-            seal: 0,
-        }
+        Console::default()
     }
 
     // One frame, with each seat's word in order.
+    #[tactic(auto, unfolding(crate::specs::Step::step_of))]
     pub fn step(self, words: &[u32]) -> Console
         ensures { result ≡ step_of self words.now }
     {
-        let kind = first_box(words);
         let mut head = self.head;
         let mut seal = self.seal;
-        let mut i = 0;
-        while i < words.len() {
-            let word = words[i];
+        for &word in words {
             head = move_head(head, word);
             seal = seal_word(seal, word);
-            i += 1;
         }
-        Console { head, kind, seal }
+        Console {
+            head,
+            kind: first_box(words),
+            seal,
+        }
     }
 }
 
@@ -46,28 +43,26 @@ impl Console {
 fn extend_jog(word: u32) -> u32
     ensures { result ≡ extended word }
 {
-    let low = word % 256;
-    if low < 128 { low } else { 4294967040 + low }
+    let jog = ((word % 256) as u8).cast_signed();
+    i32::from(jog).cast_unsigned()
 }
 
+#[tactic(auto, using(crate::proofs::Laws::moves))]
 fn move_head(head: u32, word: u32) -> u32
     ensures { result ≡ moved head word }
 {
-    std::num::wrapping_add_u32(head, extend_jog(word))
+    head.wrapping_add(extend_jog(word))
 }
 
+#[tactic(auto, using(crate::proofs::Laws::turns), unfolding(crate::specs::Step::sealed))]
 fn seal_word(seal: u32, word: u32) -> u32
     ensures { result ≡ sealed seal word }
 {
-    let turned = seal % 134217728 * 32 + seal / 134217728;
-    turned ^ word
+    seal.rotate_left(5) ^ word
 }
 
 fn first_box(words: &[u32]) -> u32
     ensures { result ≡ kind_of words.now }
 {
-    if words.len() == 0 {
-        return 0;
-    }
-    box_of(words[0])
+    words.first().map_or(0, |word| box_of(*word))
 }

@@ -4,11 +4,7 @@ use Rattle.frame_info.specs.Word.{blank}
 use Rattle.frame_info.specs.declared.PlayerInput.{PlayerInput}
 use Rattle.input_queue.specs.declared.QueueState.{QueueState}
 use Rattle.input_queue_value.specs.declared.InputQueue.{InputQueue}
-use Rattle.input_queue_value.specs.declared.OpenedQueue.{OpenedQueue}
-use Rattle.input_queue_value.specs.declared.AddedQueue.{AddedQueue}
-use Rattle.input_queue_value.specs.declared.ServedQueue.{ServedQueue}
-use Rattle.input_queue_value.specs.declared.DiscardedQueue.{DiscardedQueue}
-use Rattle.input_queue_value.specs.declared.AnnouncedQueue.{AnnouncedQueue}
+use Rattle.input_queue_value.specs.Answer.{OpenedQueue, AddedQueue, ServedQueue, DiscardedQueue, AnnouncedQueue}
 use Rattle.input_queue.specs.Queue as queue
 use Rattle.input_queue.specs.Ring.{queue_length}
 use Rattle.input_queue.specs.Calls as calls

@@ -17,9 +17,12 @@ use Rattle.frame_info.specs.declared.PlayerInput.{PlayerInput}
 use Rattle.console.specs.declared.Console.{Console}
 use Rattle.console.specs.Step.{start}
 use Rattle.input_queue.specs.declared.QueueState.{QueueState}
-use Rattle.input_queue.specs.declared.Added.{Added}
-use Rattle.input_queue.specs.declared.Announced.{Announced}
-use Rattle.input_queue.specs.Queue.{discard}
+use Rattle.input_queue.specs.Answer.{Announced}
+use Rattle.input_queue.specs.Queue.{add, place_count, discard}
+use Rattle.input_queue.specs.Ring.{word_at, add_words}
+use Rattle.input_queue.proofs.Answers.{add_some, add_low}
+use Rattle.frame_info.proofs.Refusals.{number_some, done_of}
+use Rattle.sync_layer.proofs.Seating.{seat_kept}
 use Rattle.input_queue.specs.Calls as queue
 use Rattle.input_queue.specs.Whole as queues
 use Rattle.sync_layer.specs.declared.LayerState.{LayerState}
@@ -213,7 +216,7 @@ module _ (y : LayerState) (l : List ℕ) (f f' g g' : ℤ) (c d : ℕ) (e : f' �
   unfolding calls.latest
   latest_done z z' w a b p q r = rw (p, q, r, ← e, ← m, ← h, ← k, add-one) (simp (ne_eqb _ _ a, ne_eqb _ _ b))
 
-pub ruleset saves = (advance_done, advance_last, slot_holds, load_below, load_future, load_old, load_held, load_other, load_some, saved_below, saved_held, saved_other, saved_some, load_refused, load_done, find_refused, find_done, latest_start, latest_end, latest_done)
+pub ruleset saves = (number_some, done_of, advance_done, advance_last, slot_holds, load_below, load_future, load_old, load_held, load_other, load_some, saved_below, saved_held, saved_other, saved_some, load_refused, load_done, find_refused, find_done, latest_start, latest_end, latest_done)
 
 -- Inputs
 module _ (y : LayerState) (l : List ℕ) (g : Seated y l) (i : ℕ) (p : i < y.num_players) (s : QueueState) (e : s ≡ seat_at l i) where
@@ -262,6 +265,28 @@ module _ (y : LayerState) (l : List ℕ) (i c : ℕ) where
   unfolding calls.local_refusal
   local_seat z = ⊎_elim (λ a. a.0) (λ a. absurd (omega (arith, simp a.1 at z))) (split_ltb i y.num_players)
 
+  -- and then its queue takes the input
+  pub remote_takes : calls.remote_refusal y l i c ≡ 0 → queue.add_refusal (seat_at l i) c ≡ 0
+  unfolding calls.remote_refusal
+  remote_takes z = ⊎_elim (λ a. simp a.1 at z) (λ a. absurd (omega (arith, simp a.1 at z))) (split_ltb i y.num_players)
+
+  pub local_takes : calls.local_refusal y l i c ≡ 0 → queue.add_refusal (seat_at l i) c ≡ 0
+  unfolding calls.local_refusal
+  local_takes z =
+      ⊎_elim
+      (λ a. ⊎_elim
+      (λ b. absurd (omega (arith, simp (a.1, b.1) at z)))
+      (λ b. ⊎_elim
+      (λ d. absurd (omega (arith, simp (a.1, b.1, d.1) at z)))
+      (λ d. ⊎_elim
+      (λ g. simp (a.1, b.1, d.1, g.1) at z)
+      (λ g. absurd (omega (arith, simp (a.1, b.1, d.1, g.1) at z)))
+      (split_eqb c (y.current_frame + 1)))
+      (split_ltb last_count c))
+      (split_eqb c 0))
+      (λ a. absurd (omega (arith, simp a.1 at z)))
+      (split_ltb i y.num_players)
+
   places : (words : List ℕ) → Seated y l → WordRoom words → i < y.num_players → Places l words i
   places words g w p =
       record { room = omega (arith, g.ready.few, g.room); whole = seated_whole y l g i p (seat_at l i) refl words w }
@@ -275,15 +300,25 @@ module _ (y : LayerState) (l : List ℕ) (i c : ℕ) where
 pub place_whole : (l words : List ℕ) (i : ℕ) (s : QueueState) → Places l words i → s ≡ seat_at l i → queues.Whole words (ring_of i) s
 place_whole l words i s g e = rw e g.whole
 
-module _ (l words : List ℕ) (i : ℕ) (x : PlayerInput) (s : QueueState) (e : s ≡ seat_at l i) where
-  pub placed_place : (a : Added) (r : ℤ) → r ≡ a.place → a ≡ queue.add_input words (ring_of i) s x → r ≡ (calls.placed l words i x).place
-  placed_place a r k g = rw (k, g, e)
+-- an input that is not refused, as its queue stores it; its frame crosses the edge as f
+module _ (l words : List ℕ) (i : ℕ) (x : PlayerInput) (s : QueueState) (c : ℕ) (f : ℤ) (e : s ≡ seat_at l i) (k : f ≡ x.frame) (d : c ≡ count_of f) (z : queue.add_refusal (seat_at l i) (count_of x.frame) ≡ 0) where
+  pub placed_some : 1 ≤ c
+  placed_some = rw (d, k) (add_some _ _ _ refl z)
 
-  pub placed-seats : (a : Added) (m : List ℕ) → a ≡ queue.add_input words (ring_of i) s x → m ≡ set_seat l i a.state → m ≡ calls.placed_seats l words i x
-  placed-seats a m g k = k ∙ rw (g, e)
+  pub placed_low : c - 1 < last_count
+  placed_low = rw (d, k) (add_low _ _ _ refl z)
 
-  pub placed-words : (m : List ℕ) → m ≡ queue.input_words words (ring_of i) s x → m ≡ calls.placed_words l words i x
-  placed-words m k = k ∙ rw e
+  pub placed_place : (r : ℤ) (p : ℕ) → r ≡ frame_of p → p ≡ place_count s (c - 1) → r ≡ (calls.placed l words i x).place
+  unfolding queue.add_input
+  placed_place r p g h = rw (g, h, e, d, k) (simp (eq-eqb _ _ z))
+
+  pub placed-seats : (q : QueueState) (m : List ℕ) → q ≡ add (word_at words (ring_of i)) s (c - 1) x.input → m ≡ set_seat l i q → m ≡ calls.placed_seats l words i x
+  unfolding queue.add_input
+  placed-seats q m g h = rw (h, g, e, d, k) (simp (eq-eqb _ _ z))
+
+  pub placed-words : (m : List ℕ) → m ≡ add_words words (ring_of i) s (c - 1) x.input → m ≡ calls.placed_words l words i x
+  unfolding queue.input_words
+  placed-words m g = rw (g, e, d, k) (simp (eq-eqb _ _ z))
 
 -- by the number that refuses it, or by what its queue makes of it
 module _ (y : LayerState) (l words : List ℕ) (i : ℕ) (x : PlayerInput) (c n : ℕ) (f : ℤ) (e : f ≡ x.frame) (d : c ≡ count_of f) where
@@ -308,6 +343,9 @@ module _ (y : LayerState) (l words : List ℕ) (i : ℕ) (x : PlayerInput) (c n 
       remote_unwritten = rw (← remote-number) (simp (ne_eqb _ _ h))
 
     module _ (h : n ≡ 0) where
+      pub remote_clear : queue.add_refusal (seat_at l i) (count_of x.frame) ≡ 0
+      remote_clear = remote_takes y l i (count_of x.frame) (sym remote-number ∙ h)
+
       pub remote_placed : (r r' : ℤ) → r' ≡ r → r ≡ (calls.placed l words i x).place → record { no = 0; place = r' } ≡ calls.remote y l words i x
       unfolding calls.remote
       remote_placed r r' k g = rw (k, g, ← remote-number) (simp (eq-eqb _ _ h))
@@ -338,6 +376,9 @@ module _ (y : LayerState) (l words : List ℕ) (i : ℕ) (x : PlayerInput) (c n 
       local_unwritten = rw (← local-number) (simp (ne_eqb _ _ h))
 
     module _ (h : n ≡ 0) where
+      pub local_clear : queue.add_refusal (seat_at l i) (count_of x.frame) ≡ 0
+      local_clear = local_takes y l i (count_of x.frame) (sym local-number ∙ h)
+
       pub local_placed : (r r' : ℤ) → r' ≡ r → r ≡ (calls.placed l words i x).place → record { no = 0; place = r' } ≡ calls.local y l words i x
       unfolding calls.local
       local_placed r r' k g = rw (k, g, ← local-number) (simp (eq-eqb _ _ h))
@@ -369,12 +410,27 @@ module _ (y : LayerState) (l words : List ℕ) (i d : ℕ) where
     unfolding calls.delayed_seats
     delay_seats m k = simp (lt-ltb _ _ p) (k ∙ rw (g, e))
 
+  -- what its queue refuses leaves the seat as it stands
+  module _ (p : i < y.num_players) (s : QueueState) (n : ℕ) (e : s ≡ seat_at l i) (g : record { no = n; first = null_frame; count = 0; word = 0; state = s } ≡ queue.delayed_to words (ring_of i) s d) where
+    at_seat : queue.delayed_to words (ring_of i) (seat_at l i) d ≡ record { no = n; first = null_frame; count = 0; word = 0; state = s }
+    at_seat = ap (λ (q : QueueState). queue.delayed_to words (ring_of i) q d) (sym e) ∙ sym g
+
+    pub delay_refused : record { no = n; first = null_frame; count = 0; word = 0 } ≡ calls.delayed_to y l words i d
+    unfolding calls.delayed_to
+    delay_refused = simp (lt-ltb _ _ p, at_seat)
+
+    pub delay_stays : l ≡ calls.delayed_seats y l words i d
+    unfolding calls.delayed_seats
+    delay_stays = simp (lt-ltb _ _ p, at_seat) (rw e (sym (seat_kept l i)))
+
 pub ruleset inputs =
-    (seated_sane, seated_whole, remote_done, local_done, remote_none, local_none, local_below, local_high, local_other, remote_places, local_places, place_whole, placed_place, placed-seats, placed-words, delay_none, delay_untouched, delay_done, delay_seats)
+    (number_some, done_of, seated_sane, seated_whole, remote_done, local_done, remote_none, local_none, local_below, local_high, local_other, delay_none, delay_untouched, delay_done, delay_seats, delay_refused, delay_stays)
 
-pub ruleset remotes = (remote_places, remote_refused, remote_kept, remote_unwritten, remote_placed, remote-seats, remote-words)
+pub ruleset placing = (placed_some, placed_low, place_whole, placed_place, placed-seats, placed-words)
 
-pub ruleset locals = (local_places, local_refused, local_kept, local_unwritten, local_placed, local-seats, local-words)
+pub ruleset remotes = (number_some, done_of, remote_places, remote_clear, remote_refused, remote_kept, remote_unwritten, remote_placed, remote-seats, remote-words)
+
+pub ruleset locals = (number_some, done_of, local_places, local_clear, local_refused, local_kept, local_unwritten, local_placed, local-seats, local-words)
 
 -- Confirm and consistency
 pub consistency : (y : LayerState) (l : List ℕ) (w : ℕ) (z : ℤ) → w ≡ calls.mismatch_of y l → z ≡ frame_of w → z ≡ calls.lowest_mismatch y l
@@ -434,4 +490,4 @@ module _ (y : LayerState) (l : List ℕ) (f f' : ℤ) (b : Bool) (c cap n : ℕ)
       let d : cap - 1 - 1 ≡ cap - 2 = omega arith in
       rw (← numbers, ← caps) (simp (eq-eqb _ _ h, lt-ltb 0 (cap - 1) (omega arith), d) g)
 
-pub ruleset confirms = (consistency, cap_sparse, cap_whole, confirm_below, confirm_clean, confirm_above, confirm_upto, confirm_refused, confirm_untouched, confirm_done, confirm_first, confirm_discards)
+pub ruleset confirms = (number_some, done_of, consistency, cap_sparse, cap_whole, confirm_below, confirm_clean, confirm_above, confirm_upto, confirm_refused, confirm_untouched, confirm_done, confirm_first, confirm_discards)

@@ -12,6 +12,7 @@ use lib.ListN.{length, get_or, set, length-set}
 use lib.Dec.{eqb, leb}
 use lib.IntN.{ℤ, pos}
 use borrow.Author.Tests.{eq-eqb, ne_eqb, not-true, not-false, eqb-true}
+use Rattle.frame_info.proofs.Refusals.{number_some, done_of}
 use Rattle.frame_info.proofs.Split.{split_eqb}
 use Rattle.frame_info.specs.Frame.{null_frame, count_of, frame_of}
 use Rattle.frame_info.specs.Word.{blank, predicted}
@@ -109,7 +110,7 @@ module _ (y : LayerState) (gone : List Bool) (last : List ℤ) (t : Bool) (e : t
   pub each_last : y.num_players ≡ length last
   each_last = sym each_lengths.1
 
-pub ruleset requests = (gone_marked, gone_not, each_both, each_not, ask_gone, ask_here, unrefused_start, unrefused_turn, refused_here, unrefused_end, request_short, request_each, each_gone, each_last)
+pub ruleset requests = (number_some, done_of, gone_marked, gone_not, each_both, each_not, ask_gone, ask_here, unrefused_start, unrefused_turn, refused_here, unrefused_end, request_short, request_each, each_gone, each_last)
 
 -- One seat served
 module _ (y : LayerState) (l words : List ℕ) (gone : List Bool) (last : List ℤ) (i : ℕ) (t : Bool) (e : t ≡ calls.gone_below y.current_frame gone last i) where
@@ -322,7 +323,7 @@ module _ (n : ℕ) (frames₀ : List ℤ) (inputs₀ : List ℕ) (g : ℕ → �
 pub frame_found : (gone : List Bool) (last : List ℤ) (c i : ℕ) (z z' : ℤ) → z' ≡ z → z ≡ calls.confirmed_frame gone last c i → z' ≡ calls.confirmed_frame gone last c i
 frame_found gone last c i z z' d g = d ∙ g
 
-pub ruleset lookups = (frame_gone, frame_here, found_gone, found_here, find_gone, find_here, lookup_short, lookup_below, lookup_each, each_gone, each_last, unrefused_start, unrefused_turn, refused_here, unrefused_end, finding_start, finding_turn, finding_frames, finding_words, frame_found)
+pub ruleset lookups = (number_some, done_of, frame_gone, frame_here, found_gone, found_here, find_gone, find_here, lookup_short, lookup_below, lookup_each, each_gone, each_last, unrefused_start, unrefused_turn, refused_here, unrefused_end, finding_start, finding_turn, finding_frames, finding_words, frame_found)
 
 -- The whole lookup
 module _ (y : LayerState) (l words : List ℕ) (gone : List Bool) (last : List ℤ) (f f' : ℤ) (c n : ℕ) (b : f' ≡ f) (d : c ≡ count_of f') (e : n ≡ calls.confirmed_refusal y l gone last c) where
@@ -378,4 +379,4 @@ module _ (y : LayerState) (l words : List ℕ) (gone : List Bool) (last : List �
     unfolding calls.confirmed_words
     all_words m r g = rw (← number) (simp (eq-eqb _ _ h) (rw (← b, ← d) g))
 
-pub ruleset founds = (lookup_gone, lookup_last, lookup_some, lookup_number, lookup_zero, unfound_frames, unfound_words, all_frames, all_words)
+pub ruleset founds = (number_some, done_of, lookup_gone, lookup_last, lookup_some, lookup_number, lookup_zero, unfound_frames, unfound_words, all_frames, all_words)

@@ -8,6 +8,8 @@ use mathlib.Core.List.{List}
 use lib.ListN.{length, get_or, set, length-set}
 use borrow.Author.Tests.{le-leb, lt-leb}
 use Rattle.console.specs.declared.Console.{Console}
+use Rattle.std.specs.Ordering.{ord_max, nat_cmp}
+use Rattle.std.proofs.lemmas.Bool.Decides.{nat_tests}
 use Rattle.sync_layer.specs.Lists.{write_row}
 use Rattle.sync_layer.specs.Slots.{slot_words, slot_of, slot_at, state_in, save_slot, clear_slots, within, highest_in}
 
@@ -70,6 +72,10 @@ module _ (n : ℕ) (l : List ℕ) (low high : ℕ) where
     pub highest_end : n ≤ i → m ≡ highest_in n l low high
     highest_end p = let e : n ≡ i = omega (arith, a.upto) in rw e a.is
 
+-- the greater of two, as the library has it
+pub max_is : (a b : ℕ) → ord_max nat_cmp a b ≡ max a b
+max_is a b = grind (arith, nat_tests)
+
 module _ (low high c : ℕ) where
   pub within_below : c < low → 0 ≡ within low high c
   within_below p = simp (lt-leb _ _ p)
@@ -80,4 +86,4 @@ module _ (low high c : ℕ) where
   pub within_above : low ≤ c → high < c → 0 ≡ within low high c
   within_above p q = simp (le-leb _ _ p, lt-leb _ _ q)
 
-pub ruleset heights = (highest_start, highest_turn, highest_end, within_below, within_both, within_above)
+pub ruleset heights = (max_is, highest_start, highest_turn, highest_end, within_below, within_both, within_above)

@@ -4,7 +4,11 @@ use native.Mathlib.Omega.{arith}
 use native.Mathlib.Numerals.{add-one}
 use mathlib.Core.Path.{◌≡◌, refl, ap, ◌∙◌}
 use mathlib.Core.Bool.{true, false}
-use mathlib.Core.List.{List}
+use mathlib.Core.List.{List, [], ◌∷◌}
+use mathlib.Core.Logic.{⊎_elim}
+use lib.Dec.{leb}
+use Rattle.std.specs.List.{list_all}
+use Rattle.frame_info.proofs.Split.{split_leb}
 use lib.ListN.{length, get_or, drop, drop_of_length-le}
 use lib.Seq.{drop-cons}
 use borrow.Author.Tests.{eq-eqb, ne_eqb, le-leb, lt-leb}
@@ -48,27 +52,10 @@ module _ (h : ℕ → QueueState → QueueState) (n : ℕ) where
 
 pub ruleset mapping = (mapped_start, mapped_set, mapped_turn, mapped_end)
 
--- the delays so far are within range
-pub record InRange (l : List ℕ) (i : ℕ) : Type 0 where
-  pub upto : i ≤ length l
-  pub rest : delays_in_range (drop i l) ≡ delays_in_range l
-
-module _ (l : List ℕ) where
-  pub range_start : InRange l 0
-  range_start = record { upto = omega arith; rest = refl }
-
-  module _ (i : ℕ) (m : InRange l i) where
-    pub range_turn : i < length l → get_or l i 0 ≤ max_delay → InRange l (i + 1)
-    range_turn p q =
-        record { upto = omega arith; rest = rw add-one (simp (le-leb _ _ q) at (rw (drop-cons l i 0 p) at m.rest)) }
-
-    pub range_not : i < length l → max_delay < get_or l i 0 → false ≡ delays_in_range l
-    range_not p q = simp (lt-leb _ _ q) at (rw (drop-cons l i 0 p) at m.rest)
-
-    pub range_end : length l ≤ i → true ≡ delays_in_range l
-    range_end p = rw (drop_of_length-le l p) at m.rest
-
-pub ruleset ranging = (range_start, range_turn, range_not, range_end)
+-- the delays are in range where each is
+pub all_in_range : (l : List ℕ) → list_all (λ d. leb d max_delay) l ≡ delays_in_range l
+all_in_range [] = refl
+all_in_range (d ∷ l) = ⊎_elim (λ a. simp a.1 (all_in_range l)) (λ a. simp a.1) (split_leb d max_delay)
 
 -- the lowest so far
 pub record Lowest (n : ℕ) (g : ℕ → ℕ) (m i : ℕ) : Type 0 where

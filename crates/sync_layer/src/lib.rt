@@ -2,22 +2,29 @@
 //
 // A layer is six numbers, `LayerState`, that go by value, and three lists of numbers that the
 // caller lends: the seats' queues, their words, and the saved slots. Each call takes only those
-// that it touches, and tests for itself. One that refuses answers its number, the layer as it was
-// given, and writes nothing; a refused setup alone hands back a fresh layer, and so writes its one
-// seat and its one slot. The crate `sync_layer_value` has the same layer with its lists inside.
+// that it touches, and tests for itself. One that refuses answers why, and writes nothing: the layer
+// that it was given stands. A refused setup alone hands back a fresh layer, and so writes its one seat
+// and its one slot. The crate `sync_layer_value` has the same layer with its lists inside.
 #![tactic(auto)]
 
 mod seats;
 mod serving;
 mod slots;
 
-ghost use Rattle.std.specs.Prelude.{◌≡◌, ◌+◌, ◌-◌, ◌*◌, ◌≤◌, ◌<◌};
+ghost use Rattle.std.specs.Prelude.{nat_le, ◌≡◌, ◌+◌, ◌-◌, ◌*◌, ◌≤◌, ◌<◌};
+ghost use Rattle.std.specs.List.{list_all};
+ghost use Rattle.frame_info.specs.Frame.{max_delay, count_of};
+ghost use Rattle.frame_info.specs.Refusal.{number_in};
+ghost use Rattle.input_queue.specs.Calls.{add_refusal};
 ghost use Rattle.sync_layer.specs.Calls as calls;
+ghost use Rattle.sync_layer.specs.Said.{opened_said, advanced_said, loaded_said, saved_said, latest_said, placed_said, announced_said, confirmed_said};
+ghost use Rattle.sync_layer.specs.Seats.{seat_at};
 ghost use Rattle.sync_layer.specs.Slots.{max_limit, save_slot};
 ghost use Rattle.sync_layer.specs.Whole.{SeatRoom, WordRoom, SlotRoom, Ready, Seated, Places};
 
 use console::Console;
-use frame_info::{BLANK, NULL_FRAME, PlayerInput, count_of, frame_of, lesser};
+use frame_info::refusal::Refusal;
+use frame_info::{LAST_COUNT, MAX_DELAY, PREDICTORS, PlayerInput, count_of, frame_of};
 use input_queue::INPUT_QUEUE_LENGTH;
 pub use seats::{discard_seats, lowest_wrong, reset_seats, seat_at, set_seat};
 pub use serving::{
@@ -45,7 +52,7 @@ pub const WORDS_LENGTH: usize = MAX_SEATS * INPUT_QUEUE_LENGTH;
 
 pub const SLOTS_LENGTH: usize = (MAX_LIMIT as usize + 1) * SLOT_WORDS;
 
-#[derive(Clone, Copy)]
+#[derive(Clone, Copy, Debug, PartialEq, Eq)]
 pub struct LayerState {
     pub num_players: u32,
     pub max_prediction: u32,
@@ -57,87 +64,43 @@ pub struct LayerState {
     pub last_confirmed_count: u32,
 }
 
-#[derive(Clone, Copy)]
+// A setup's answer. One that is refused hands back a fresh layer too: so the two stand side by side,
+// and are no `Result`.
+#[derive(Clone, Copy, Debug, PartialEq, Eq)]
 pub struct Opened {
-    pub no: u32,
+    pub refused: Option<Refusal>,
     pub layer: LayerState,
 }
 
-#[derive(Clone, Copy)]
-pub struct Advanced {
-    pub no: u32,
-    pub layer: LayerState,
-}
-
-#[derive(Clone, Copy)]
-pub struct Confirmed {
-    pub no: u32,
-    pub layer: LayerState,
-}
-
-#[derive(Clone, Copy)]
+// What the other calls answer where they are not refused, if that is more than one value.
+#[derive(Clone, Copy, Debug, PartialEq, Eq)]
 pub struct Loaded {
-    pub no: u32,
     pub state: Console,
     pub layer: LayerState,
 }
 
-#[derive(Clone, Copy)]
-pub struct Saved {
-    pub no: u32,
-    pub state: Console,
-}
-
-#[derive(Clone, Copy)]
-pub struct Latest {
-    pub no: u32,
-    pub frame: i32,
-}
-
-#[derive(Clone, Copy)]
-pub struct Placed {
-    pub no: u32,
-    pub place: i32,
-}
-
-#[derive(Clone, Copy)]
+#[derive(Clone, Copy, Debug, PartialEq, Eq)]
 pub struct Announced {
-    pub no: u32,
     pub first: i32,
     pub count: u32,
     pub word: u32,
 }
 
 fn delays_in_range(delays: &[u32]) -> bool
-    ensures { result ≡ calls.delays_in_range delays.now }
+    ensures { result ≡ list_all (λ d. nat_le d max_delay) delays.now }
 {
-    let mut i = 0;
-    while i < delays.len() {
-        if delays[i] > frame_info::MAX_DELAY {
-            return false;
-        }
-        i += 1;
-    }
-    true
+    delays.iter().all(|&delay| delay <= MAX_DELAY)
 }
 
+#[tactic(auto, using(crate::proofs::Turns::all_in_range), unfolding(crate::specs::Calls::Setup::fits))]
 fn fits(limit: u32, predictor: u32, delays: &[u32]) -> bool
     ensures { result ≡ calls.fits limit predictor delays.now }
 {
-    let seats = delays.len();
-    if seats == 0 {
-        return false;
-    }
-    if seats > MAX_SEATS {
-        return false;
-    }
-    if limit > MAX_LIMIT {
-        return false;
-    }
-    if predictor >= frame_info::PREDICTORS {
-        return false;
-    }
-    delays_in_range(delays)
+    !delays.is_empty()
+        && delays.len() <= MAX_SEATS
+        && limit <= MAX_LIMIT
+        && predictor < PREDICTORS
+        && delays_in_range(delays)
 }
 
 fn fresh_layer(seats: u32, limit: u32, predictor: u32) -> LayerState
@@ -163,7 +126,7 @@ pub fn new(
     delays: &[u32],
 ) -> Opened
     requires { SeatRoom seats.old × SlotRoom slots.old }
-    ensures { (result ≡ calls.opened limit predictor delays.now)
+    ensures { (opened_said result ≡ calls.opened limit predictor delays.now)
         × (seats.new ≡ calls.opened_seats limit predictor delays.now seats.old)
         × (slots.new ≡ calls.opened_slots limit predictor delays.now slots.old) }
 {
@@ -171,7 +134,7 @@ pub fn new(
         seats::fresh_seats(seats, delays);
         slots::clear_slots(slots, limit as usize + 1);
         return Opened {
-            no: 0,
+            refused: None,
             layer: fresh_layer(delays.len() as u32, limit, predictor),
         };
     }
@@ -179,7 +142,7 @@ pub fn new(
     seats::fresh_seats(seats, &none);
     slots::clear_slots(slots, 1);
     Opened {
-        no: frame_info::refusal::OUT_OF_RANGE,
+        refused: Some(Refusal::OutOfRange),
         layer: fresh_layer(1, 0, 0),
     }
 }
@@ -209,31 +172,21 @@ fn with_current(layer: LayerState, frame: u32) -> LayerState
     ensures { result ≡ calls.with_current layer frame }
 {
     LayerState {
-        num_players: layer.num_players,
-        max_prediction: layer.max_prediction,
-        predictor: layer.predictor,
         current_frame: frame,
-        last_saved_count: layer.last_saved_count,
-        last_confirmed_count: layer.last_confirmed_count,
+        ..layer
     }
 }
 
 // One frame on: 6 at the last frame.
-pub fn advance_frame(layer: LayerState) -> Advanced
+pub fn advance_frame(layer: LayerState) -> Result<LayerState, Refusal>
     requires { Ready layer }
-    ensures { result ≡ calls.advanced layer }
+    ensures { advanced_said layer result ≡ calls.advanced layer }
 {
     let next = layer.current_frame + 1;
-    if next < frame_info::LAST_COUNT {
-        return Advanced {
-            no: 0,
-            layer: with_current(layer, next),
-        };
+    if next < LAST_COUNT {
+        return Ok(with_current(layer, next));
     }
-    Advanced {
-        no: frame_info::refusal::FRAME_TOO_HIGH,
-        layer,
-    }
+    Err(Refusal::FrameTooHigh)
 }
 
 // Frame and state into the current frame's slot. The words of the slot stay.
@@ -245,12 +198,8 @@ pub fn save_current_state(slots: &mut [u32], layer: LayerState, state: Console) 
     let current = layer.current_frame;
     save_slot(slots, layer.max_prediction, current, state);
     LayerState {
-        num_players: layer.num_players,
-        max_prediction: layer.max_prediction,
-        predictor: layer.predictor,
-        current_frame: current,
         last_saved_count: current + 1,
-        last_confirmed_count: layer.last_confirmed_count,
+        ..layer
     }
 }
 
@@ -261,149 +210,129 @@ fn slot_holds(slots: &[u32], limit: u32, count: u32) -> bool
     count_in(slots, limit, count - 1) == count
 }
 
-// The number by which a load is refused, 0 for none.
-fn load_refusal(slots: &[u32], layer: LayerState, count: u32) -> u32
+// Why a load is refused, if it is.
+fn load_refusal(slots: &[u32], layer: LayerState, count: u32) -> Result<(), Refusal>
     requires { Ready layer × SlotRoom slots.now }
-    ensures { result ≡ calls.load_refusal layer slots.now count }
+    ensures { number_in result ≡ calls.load_refusal layer slots.now count }
 {
     if count == 0 {
-        return frame_info::refusal::FRAME_BELOW_ZERO;
+        return Err(Refusal::FrameBelowZero);
     }
     if layer.current_frame < count {
-        return frame_info::refusal::LOAD_NOT_PAST;
+        return Err(Refusal::LoadNotPast);
     }
     if count + layer.max_prediction <= layer.current_frame {
-        return frame_info::refusal::LOAD_TOO_OLD;
+        return Err(Refusal::LoadTooOld);
     }
-    if slot_holds(slots, layer.max_prediction, count) {
-        return 0;
+    if !slot_holds(slots, layer.max_prediction, count) {
+        return Err(Refusal::SlotHoldsAnother);
     }
-    frame_info::refusal::SLOT_HOLDS_ANOTHER
+    Ok(())
 }
 
 // The state saved for a frame, which becomes the current one: 7, 8, 9, 10.
-pub fn load_frame(slots: &[u32], layer: LayerState, frame: i32) -> Loaded
+pub fn load_frame(slots: &[u32], layer: LayerState, frame: i32) -> Result<Loaded, Refusal>
     requires { Ready layer × SlotRoom slots.now }
-    ensures { result ≡ calls.loaded layer slots.now frame }
+    ensures { loaded_said layer result ≡ calls.loaded layer slots.now frame }
 {
     let count = count_of(frame);
-    let no = load_refusal(slots, layer, count);
-    if no != 0 {
-        return Loaded {
-            no,
-            state: Console::new(),
-            layer,
-        };
-    }
-    Loaded {
-        no: 0,
+    load_refusal(slots, layer, count)?;
+    Ok(Loaded {
         state: state_in(slots, layer.max_prediction, count - 1),
         layer: with_current(layer, count - 1),
-    }
+    })
 }
 
-// The number by which a saved lookup is refused, 0 for none.
-fn saved_refusal(slots: &[u32], limit: u32, count: u32) -> u32
+// Why a saved lookup is refused, if it is.
+fn saved_refusal(slots: &[u32], limit: u32, count: u32) -> Result<(), Refusal>
     requires { (limit ≤ max_limit) × SlotRoom slots.now }
-    ensures { result ≡ calls.saved_refusal limit slots.now count }
+    ensures { number_in result ≡ calls.saved_refusal limit slots.now count }
 {
     if count == 0 {
-        return frame_info::refusal::FRAME_BELOW_ZERO;
+        return Err(Refusal::FrameBelowZero);
     }
-    if slot_holds(slots, limit, count) {
-        return 0;
+    if !slot_holds(slots, limit, count) {
+        return Err(Refusal::SlotHoldsAnother);
     }
-    frame_info::refusal::SLOT_HOLDS_ANOTHER
+    Ok(())
 }
 
 // The state saved for a frame: 7, 10.
-pub fn saved_state_by_frame(slots: &[u32], layer: LayerState, frame: i32) -> Saved
+pub fn saved_state_by_frame(
+    slots: &[u32],
+    layer: LayerState,
+    frame: i32,
+) -> Result<Console, Refusal>
     requires { Ready layer × SlotRoom slots.now }
-    ensures { result ≡ calls.saved_by layer slots.now frame }
+    ensures { saved_said result ≡ calls.saved_by layer slots.now frame }
 {
     let count = count_of(frame);
-    let no = saved_refusal(slots, layer.max_prediction, count);
-    if no != 0 {
-        return Saved {
-            no,
-            state: Console::new(),
-        };
-    }
-    Saved {
-        no: 0,
-        state: state_in(slots, layer.max_prediction, count - 1),
-    }
+    saved_refusal(slots, layer.max_prediction, count)?;
+    Ok(state_in(slots, layer.max_prediction, count - 1))
 }
 
 // The highest frame saved within a range, -1 where there is none: 7 for either end.
-pub fn latest_saved_state_in_range(slots: &[u32], layer: LayerState, start: i32, end: i32) -> Latest
+pub fn latest_saved_state_in_range(
+    slots: &[u32],
+    layer: LayerState,
+    start: i32,
+    end: i32,
+) -> Result<i32, Refusal>
     requires { Ready layer × SlotRoom slots.now }
-    ensures { result ≡ calls.latest layer slots.now start end }
+    ensures { latest_said result ≡ calls.latest layer slots.now start end }
 {
     let low = count_of(start);
     let high = count_of(end);
-    if low == 0 {
-        return Latest {
-            no: frame_info::refusal::FRAME_BELOW_ZERO,
-            frame: NULL_FRAME,
-        };
-    }
-    if high == 0 {
-        return Latest {
-            no: frame_info::refusal::FRAME_BELOW_ZERO,
-            frame: NULL_FRAME,
-        };
+    if low == 0 || high == 0 {
+        return Err(Refusal::FrameBelowZero);
     }
     let n = layer.max_prediction as usize + 1;
-    Latest {
-        no: 0,
-        frame: frame_of(slots::highest_in(slots, n, low, high)),
-    }
+    Ok(frame_of(slots::highest_in(slots, n, low, high)))
 }
 
-// The number by which a remote input is refused, 0 for none.
-fn remote_refusal(seats: &[u32], layer: LayerState, seat: u32, count: u32) -> u32
+// Why a remote input is refused, if it is.
+fn remote_refusal(seats: &[u32], layer: LayerState, seat: u32, count: u32) -> Result<(), Refusal>
     requires { Seated layer seats.now }
-    ensures { result ≡ calls.remote_refusal layer seats.now seat count }
-{
-    if seat < layer.num_players {
-        return input_queue::add_refusal(seat_at(seats, seat as usize), count);
-    }
-    frame_info::refusal::NO_SUCH_SEAT
-}
-
-// The number by which a local input is refused, 0 for none.
-fn local_refusal(seats: &[u32], layer: LayerState, seat: u32, count: u32) -> u32
-    requires { Seated layer seats.now }
-    ensures { result ≡ calls.local_refusal layer seats.now seat count }
+    ensures { number_in result ≡ calls.remote_refusal layer seats.now seat count }
 {
     if seat >= layer.num_players {
-        return frame_info::refusal::NO_SUCH_SEAT;
+        return Err(Refusal::NoSuchSeat);
+    }
+    input_queue::add_refusal(seat_at(seats, seat as usize), count)
+}
+
+// Why a local input is refused, if it is.
+fn local_refusal(seats: &[u32], layer: LayerState, seat: u32, count: u32) -> Result<(), Refusal>
+    requires { Seated layer seats.now }
+    ensures { number_in result ≡ calls.local_refusal layer seats.now seat count }
+{
+    if seat >= layer.num_players {
+        return Err(Refusal::NoSuchSeat);
     }
     if count == 0 {
-        return frame_info::refusal::FRAME_BELOW_ZERO;
+        return Err(Refusal::FrameBelowZero);
     }
-    if count > frame_info::LAST_COUNT {
-        return frame_info::refusal::FRAME_TOO_HIGH;
+    if count > LAST_COUNT {
+        return Err(Refusal::FrameTooHigh);
     }
     if count != layer.current_frame + 1 {
-        return frame_info::refusal::NOT_CURRENT_FRAME;
+        return Err(Refusal::NotCurrentFrame);
     }
     input_queue::add_refusal(seat_at(seats, seat as usize), count)
 }
 
 // Seat i's queue takes an input that is not refused. Answers its place.
 fn place_input(seats: &mut [u32], words: &mut [u32], seat: usize, input: PlayerInput) -> i32
-    requires { Places seats.old words.old seat }
+    requires { Places seats.old words.old seat × (add_refusal (seat_at seats.old seat) (count_of input.frame) ≡ 0) }
     ensures { (result ≡ (calls.placed seats.old words.old seat input).place)
         × (seats.new ≡ calls.placed_seats seats.old words.old seat input)
         × (words.new ≡ calls.placed_words seats.old words.old seat input) }
 {
     let s = seat_at(&seats[..], seat);
-    let added = input_queue::add_input(words, seat * INPUT_QUEUE_LENGTH, s, input);
-    let state = added.state;
-    set_seat(seats, seat, state);
-    added.place
+    let frame = count_of(input.frame) - 1;
+    let stored = input_queue::store(words, seat * INPUT_QUEUE_LENGTH, s, frame, input.input);
+    set_seat(seats, seat, stored.state);
+    frame_of(stored.place)
 }
 
 // A far hand's input: 2, 7, 6, 3, 4.
@@ -413,21 +342,14 @@ pub fn add_remote_input(
     layer: LayerState,
     seat: u32,
     input: PlayerInput,
-) -> Placed
+) -> Result<i32, Refusal>
     requires { Seated layer seats.old × WordRoom words.old }
-    ensures { (result ≡ calls.remote layer seats.old words.old seat input)
+    ensures { (placed_said result ≡ calls.remote layer seats.old words.old seat input)
         × (seats.new ≡ calls.remote_seats layer seats.old words.old seat input)
         × (words.new ≡ calls.remote_words layer seats.old words.old seat input) }
 {
-    let no = remote_refusal(&seats[..], layer, seat, count_of(input.frame));
-    if no != 0 {
-        return Placed {
-            no,
-            place: NULL_FRAME,
-        };
-    }
-    let place = place_input(seats, words, seat as usize, input);
-    Placed { no: 0, place }
+    remote_refusal(&seats[..], layer, seat, count_of(input.frame))?;
+    Ok(place_input(seats, words, seat as usize, input))
 }
 
 // A near hand's input, for the current frame: 2, 7, 6, 12, 3, 4.
@@ -437,21 +359,14 @@ pub fn add_local_input(
     layer: LayerState,
     seat: u32,
     input: PlayerInput,
-) -> Placed
+) -> Result<i32, Refusal>
     requires { Seated layer seats.old × WordRoom words.old }
-    ensures { (result ≡ calls.local layer seats.old words.old seat input)
+    ensures { (placed_said result ≡ calls.local layer seats.old words.old seat input)
         × (seats.new ≡ calls.local_seats layer seats.old words.old seat input)
         × (words.new ≡ calls.local_words layer seats.old words.old seat input) }
 {
-    let no = local_refusal(&seats[..], layer, seat, count_of(input.frame));
-    if no != 0 {
-        return Placed {
-            no,
-            place: NULL_FRAME,
-        };
-    }
-    let place = place_input(seats, words, seat as usize, input);
-    Placed { no: 0, place }
+    local_refusal(&seats[..], layer, seat, count_of(input.frame))?;
+    Ok(place_input(seats, words, seat as usize, input))
 }
 
 // Another delay for a seat: 2, 1.
@@ -461,30 +376,23 @@ pub fn set_frame_delay(
     layer: LayerState,
     seat: u32,
     delay: u32,
-) -> Announced
+) -> Result<Announced, Refusal>
     requires { Seated layer seats.old × WordRoom words.now }
-    ensures { (result ≡ calls.delayed_to layer seats.old words.now seat delay)
+    ensures { (announced_said result ≡ calls.delayed_to layer seats.old words.now seat delay)
         × (seats.new ≡ calls.delayed_seats layer seats.old words.now seat delay) }
 {
     if seat >= layer.num_players {
-        return Announced {
-            no: frame_info::refusal::NO_SUCH_SEAT,
-            first: NULL_FRAME,
-            count: 0,
-            word: BLANK,
-        };
+        return Err(Refusal::NoSuchSeat);
     }
     let i = seat as usize;
     let s = seat_at(&seats[..], i);
-    let d = input_queue::set_frame_delay(words, i * INPUT_QUEUE_LENGTH, s, delay);
-    let state = d.state;
-    set_seat(seats, i, state);
-    Announced {
-        no: d.no,
+    let d = input_queue::set_frame_delay(words, i * INPUT_QUEUE_LENGTH, s, delay)?;
+    set_seat(seats, i, d.state);
+    Ok(Announced {
         first: d.first,
         count: d.count,
         word: d.word,
-    }
+    })
 }
 
 pub fn reset_prediction(seats: &mut [u32], layer: LayerState)
@@ -507,42 +415,27 @@ fn confirm_cap(layer: LayerState, count: u32, sparse: bool) -> u32
     requires { Ready layer }
     ensures { result ≡ calls.confirm_cap layer count sparse }
 {
-    let next = layer.current_frame + 1;
-    if sparse {
-        return lesser(lesser(count, layer.last_saved_count), next);
-    }
-    lesser(count, next)
+    let least = if sparse {
+        count.min(layer.last_saved_count)
+    } else {
+        count
+    };
+    least.min(layer.current_frame + 1)
 }
 
-// The number by which a confirm is refused, 0 for none.
-fn confirm_refusal(seats: &[u32], layer: LayerState, count: u32, cap: u32) -> u32
+// Why a confirm is refused, if it is.
+fn confirm_refusal(seats: &[u32], layer: LayerState, count: u32, cap: u32) -> Result<(), Refusal>
     requires { Seated layer seats.now }
-    ensures { result ≡ calls.cap_refusal layer seats.now count cap }
+    ensures { number_in result ≡ calls.cap_refusal layer seats.now count cap }
 {
     if count == 0 {
-        return frame_info::refusal::FRAME_BELOW_ZERO;
+        return Err(Refusal::FrameBelowZero);
     }
     let wrong = lowest_wrong(seats, layer.num_players as usize);
-    if wrong == 0 {
-        return 0;
+    if wrong != 0 && wrong < cap {
+        return Err(Refusal::AboveMismatch);
     }
-    if wrong < cap {
-        return frame_info::refusal::ABOVE_MISMATCH;
-    }
-    0
-}
-
-fn with_confirmed(layer: LayerState, count: u32) -> LayerState
-    ensures { result ≡ calls.with_confirmed layer count }
-{
-    LayerState {
-        num_players: layer.num_players,
-        max_prediction: layer.max_prediction,
-        predictor: layer.predictor,
-        current_frame: layer.current_frame,
-        last_saved_count: layer.last_saved_count,
-        last_confirmed_count: count,
-    }
+    Ok(())
 }
 
 // Nothing at or below a frame will change any more: 7, 15. The queues let go of what is before it.
@@ -551,27 +444,21 @@ pub fn set_last_confirmed_frame(
     layer: LayerState,
     frame: i32,
     sparse: bool,
-) -> Confirmed
+) -> Result<LayerState, Refusal>
     requires { Seated layer seats.old }
-    ensures { (result ≡ calls.confirmed layer seats.old frame sparse)
+    ensures { (confirmed_said layer result ≡ calls.confirmed layer seats.old frame sparse)
         × (seats.new ≡ calls.confirmed_seats layer seats.old frame sparse) }
 {
     let count = count_of(frame);
     let cap = confirm_cap(layer, count, sparse);
-    let no = confirm_refusal(&seats[..], layer, count, cap);
-    if no != 0 {
-        return Confirmed { no, layer };
-    }
-    let confirmed = with_confirmed(layer, cap);
+    confirm_refusal(&seats[..], layer, count, cap)?;
+    let confirmed = LayerState {
+        last_confirmed_count: cap,
+        ..layer
+    };
     if cap < 2 {
-        return Confirmed {
-            no: 0,
-            layer: confirmed,
-        };
+        return Ok(confirmed);
     }
     discard_seats(seats, layer.num_players as usize, cap - 2);
-    Confirmed {
-        no: 0,
-        layer: confirmed,
-    }
+    Ok(confirmed)
 }

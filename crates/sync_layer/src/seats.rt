@@ -7,7 +7,6 @@ ghost use Rattle.sync_layer.specs.Seats.{seat_words, seat_at, set_seat, map_seat
 ghost use Rattle.sync_layer.specs.Calls.{fresh_seats};
 
 use crate::SEAT_WORDS;
-use frame_info::lesser;
 use input_queue::QueueState;
 
 pub fn seat_at(seats: &[u32], seat: usize) -> QueueState
@@ -47,10 +46,8 @@ pub fn fresh_seats(seats: &mut [u32], delays: &[u32])
     requires { length delays.now * seat_words ≤ length seats.old }
     ensures { seats.new ≡ fresh_seats delays.now seats.old }
 {
-    let mut i = 0;
-    while i < delays.len() {
-        set_seat(seats, i, input_queue::fresh_state(delays[i]));
-        i += 1;
+    for (i, &delay) in delays.iter().enumerate() {
+        set_seat(seats, i, input_queue::fresh_state(delay));
     }
 }
 
@@ -58,11 +55,9 @@ pub fn reset_seats(seats: &mut [u32], n: usize)
     requires { n * seat_words ≤ length seats.old }
     ensures { seats.new ≡ map_seats n (λ i q. reset q) seats.old }
 {
-    let mut i = 0;
-    while i < n {
+    for i in 0..n {
         let s = seat_at(&seats[..], i);
         set_seat(seats, i, input_queue::reset(s));
-        i += 1;
     }
 }
 
@@ -70,24 +65,20 @@ pub fn discard_seats(seats: &mut [u32], n: usize, frame: u32)
     requires { n * seat_words ≤ length seats.old }
     ensures { seats.new ≡ map_seats n (λ i q. discard q frame) seats.old }
 {
-    let mut i = 0;
-    while i < n {
+    for i in 0..n {
         let s = seat_at(&seats[..], i);
         set_seat(seats, i, input_queue::discard(s, frame));
-        i += 1;
     }
 }
 
 fn lower_of(a: u32, b: u32) -> u32
     ensures { result ≡ lower a b }
 {
-    if a == 0 {
-        return b;
+    match (a, b) {
+        (0, _) => b,
+        (_, 0) => a,
+        _ => a.min(b),
     }
-    if b == 0 {
-        return a;
-    }
-    lesser(a, b)
 }
 
 // The lowest mismatch of the seats, as a count.
@@ -96,11 +87,9 @@ pub fn lowest_wrong(seats: &[u32], n: usize) -> u32
     ensures { result ≡ lowest_of n (λ i. (seat_at seats.now i).first_incorrect_count) }
 {
     let mut lowest = 0;
-    let mut i = 0;
-    while i < n {
+    for i in 0..n {
         let s = seat_at(seats, i);
         lowest = lower_of(lowest, s.first_incorrect_count);
-        i += 1;
     }
     lowest
 }

@@ -1,6 +1,7 @@
 // What is served to every seat for a frame. A status list has one entry a seat: whether it is gone,
 // and its last frame.
 ghost use Rattle.std.specs.Prelude.{◌≡◌, ◌+◌, ◌-◌, ◌*◌, ◌≤◌, ◌<◌, length, set};
+ghost use Rattle.frame_info.specs.Refusal.{number_in};
 ghost use Rattle.frame_info.specs.Word.{predicted};
 ghost use Rattle.input_queue.specs.Queue.{asking};
 ghost use Rattle.input_queue.specs.Ring.{queue_length, word_at};
@@ -12,6 +13,7 @@ ghost use Rattle.sync_layer.specs.Whole.{WordRoom, Seated, Places, Serves};
 use crate::seats::{seat_at, set_seat};
 use crate::{LayerState, MAX_SEATS};
 use frame_info::input_status::{CONFIRMED, DISCONNECTED, InputStatus, PREDICTED};
+use frame_info::refusal::Refusal;
 use frame_info::{BLANK, NULL_FRAME, count_of, frame_of};
 use input_queue::{Asked, INPUT_QUEUE_LENGTH};
 
@@ -20,20 +22,14 @@ fn gone_below(disconnected: &[bool], last_frame: &[i32], seat: usize, frame: u32
     requires { (seat < length disconnected.now) × (seat < length last_frame.now) }
     ensures { result ≡ calls.gone_below frame disconnected.now last_frame.now seat }
 {
-    if disconnected[seat] {
-        return count_of(last_frame[seat]) <= frame;
-    }
-    false
+    disconnected[seat] && count_of(last_frame[seat]) <= frame
 }
 
 fn one_each(layer: LayerState, disconnected: &[bool], last_frame: &[i32]) -> bool
     ensures { result ≡ calls.one_each layer disconnected.now last_frame.now }
 {
     let n = layer.num_players as usize;
-    if disconnected.len() == n {
-        return last_frame.len() == n;
-    }
-    false
+    disconnected.len() == n && last_frame.len() == n
 }
 
 fn ask_refusal(
@@ -42,50 +38,44 @@ fn ask_refusal(
     disconnected: &[bool],
     last_frame: &[i32],
     seat: usize,
-) -> u32
+) -> Result<(), Refusal>
     requires { Seated layer seats.now × (seat < layer.num_players) × (seat < length disconnected.now) × (seat < length last_frame.now) }
-    ensures { result ≡ calls.ask_refusal layer seats.now disconnected.now last_frame.now seat }
+    ensures { number_in result ≡ calls.ask_refusal layer seats.now disconnected.now last_frame.now seat }
 {
     if gone_below(disconnected, last_frame, seat, layer.current_frame) {
-        return 0;
+        return Ok(());
     }
     input_queue::input_refusal(seat_at(seats, seat), layer.current_frame + 1)
 }
 
-// The number by which the lowest seat that refuses does, 0 where none does.
+// Why the lowest seat that refuses does, if one does.
 fn first_ask_refusal(
     seats: &[u32],
     layer: LayerState,
     disconnected: &[bool],
     last_frame: &[i32],
-) -> u32
+) -> Result<(), Refusal>
     requires { Seated layer seats.now × (layer.num_players ≡ length disconnected.now) × (layer.num_players ≡ length last_frame.now) }
-    ensures { result ≡ first_refusal layer.num_players (calls.ask_refusal layer seats.now disconnected.now last_frame.now) }
+    ensures { number_in result ≡ first_refusal layer.num_players (calls.ask_refusal layer seats.now disconnected.now last_frame.now) }
 {
-    let n = layer.num_players as usize;
-    let mut i: usize = 0;
-    while i < n {
-        let no = ask_refusal(seats, layer, disconnected, last_frame, i);
-        if no != 0 {
-            return no;
-        }
-        i += 1;
+    for i in 0..layer.num_players as usize {
+        ask_refusal(seats, layer, disconnected, last_frame, i)?;
     }
-    0
+    Ok(())
 }
 
-// The number by which a request is refused, 0 for none: 2, and then seat by seat 13, 14.
+// Why a request is refused, if it is: 2, and then seat by seat 13, 14.
 pub fn request_refusal(
     seats: &[u32],
     layer: LayerState,
     disconnected: &[bool],
     last_frame: &[i32],
-) -> u32
+) -> Result<(), Refusal>
     requires { Seated layer seats.now }
-    ensures { result ≡ calls.request_refusal layer seats.now disconnected.now last_frame.now }
+    ensures { number_in result ≡ calls.request_refusal layer seats.now disconnected.now last_frame.now }
 {
     if !one_each(layer, disconnected, last_frame) {
-        return frame_info::refusal::NO_SUCH_SEAT;
+        return Err(Refusal::NoSuchSeat);
     }
     first_ask_refusal(seats, layer, disconnected, last_frame)
 }
@@ -105,8 +95,7 @@ pub fn ask_seat(seats: &mut [u32], words: &[u32], predictor: u32, count: u32, se
 {
     let s = seat_at(&seats[..], seat);
     let asked = input_queue::ask(words, seat * INPUT_QUEUE_LENGTH, s, predictor, count);
-    let state = asked.state;
-    set_seat(seats, seat, state);
+    set_seat(seats, seat, asked.state);
     asked
 }
 
@@ -158,9 +147,7 @@ fn serve_seats(
         × (statuses.new
         ≡ write_row layer.num_players statuses.old 0 (calls.status layer seats.old words.now disconnected.now last_frame.now)) }
 {
-    let n = layer.num_players as usize;
-    let mut i: usize = 0;
-    while i < n {
+    for i in 0..layer.num_players as usize {
         serve_seat(
             seats,
             words,
@@ -171,7 +158,6 @@ fn serve_seats(
             inputs,
             statuses,
         );
-        i += 1;
     }
 }
 
@@ -184,17 +170,14 @@ pub fn synchronized_inputs_into(
     last_frame: &[i32],
     inputs: &mut [u32],
     statuses: &mut [InputStatus],
-) -> u32
+) -> Result<(), Refusal>
     requires { Seated layer seats.old × WordRoom words.now × (layer.num_players ≤ length inputs.old) × (layer.num_players ≤ length statuses.old) }
-    ensures { (result ≡ calls.request_refusal layer seats.old disconnected.now last_frame.now)
+    ensures { (number_in result ≡ calls.request_refusal layer seats.old disconnected.now last_frame.now)
         × (seats.new ≡ calls.served_seats layer seats.old words.now disconnected.now last_frame.now)
         × (inputs.new ≡ calls.served_words layer seats.old words.now disconnected.now last_frame.now inputs.old)
         × (statuses.new ≡ calls.statuses layer seats.old words.now disconnected.now last_frame.now statuses.old) }
 {
-    let no = request_refusal(&seats[..], layer, disconnected, last_frame);
-    if no != 0 {
-        return no;
-    }
+    request_refusal(&seats[..], layer, disconnected, last_frame)?;
     serve_seats(
         seats,
         words,
@@ -204,11 +187,11 @@ pub fn synchronized_inputs_into(
         inputs,
         statuses,
     );
-    0
+    Ok(())
 }
 
 // The word of every seat for the current frame, and its status: 2, and then the lowest seat that
-// refuses decides. Answers the number.
+// refuses decides.
 pub fn synchronized_inputs(
     seats: &mut [u32],
     words: &[u32],
@@ -217,9 +200,9 @@ pub fn synchronized_inputs(
     last_frame: &[i32],
     inputs: &mut [u32; MAX_SEATS],
     statuses: &mut [InputStatus; MAX_SEATS],
-) -> u32
+) -> Result<(), Refusal>
     requires { Seated layer seats.old × WordRoom words.now }
-    ensures { (result ≡ calls.request_refusal layer seats.old disconnected.now last_frame.now)
+    ensures { (number_in result ≡ calls.request_refusal layer seats.old disconnected.now last_frame.now)
         × (seats.new ≡ calls.served_seats layer seats.old words.now disconnected.now last_frame.now)
         × (inputs.new ≡ calls.served_words layer seats.old words.now disconnected.now last_frame.now inputs.old)
         × (statuses.new ≡ calls.statuses layer seats.old words.now disconnected.now last_frame.now statuses.old) }
@@ -242,12 +225,12 @@ fn find_refusal(
     last_frame: &[i32],
     count: u32,
     seat: usize,
-) -> u32
+) -> Result<(), Refusal>
     requires { Seated layer seats.now × (0 < count) × (seat < layer.num_players) × (seat < length disconnected.now) × (seat < length last_frame.now) }
-    ensures { result ≡ calls.find_refusal seats.now disconnected.now last_frame.now count seat }
+    ensures { number_in result ≡ calls.find_refusal seats.now disconnected.now last_frame.now count seat }
 {
     if gone_below(disconnected, last_frame, seat, count - 1) {
-        return 0;
+        return Ok(());
     }
     input_queue::found_refusal(seat_at(seats, seat), count)
 }
@@ -258,20 +241,14 @@ fn first_find_refusal(
     disconnected: &[bool],
     last_frame: &[i32],
     count: u32,
-) -> u32
+) -> Result<(), Refusal>
     requires { Seated layer seats.now × (0 < count) × (layer.num_players ≡ length disconnected.now) × (layer.num_players ≡ length last_frame.now) }
-    ensures { result ≡ first_refusal layer.num_players (calls.find_refusal seats.now disconnected.now last_frame.now count) }
+    ensures { number_in result ≡ first_refusal layer.num_players (calls.find_refusal seats.now disconnected.now last_frame.now count) }
 {
-    let n = layer.num_players as usize;
-    let mut i: usize = 0;
-    while i < n {
-        let no = find_refusal(seats, layer, disconnected, last_frame, count, i);
-        if no != 0 {
-            return no;
-        }
-        i += 1;
+    for i in 0..layer.num_players as usize {
+        find_refusal(seats, layer, disconnected, last_frame, count, i)?;
     }
-    0
+    Ok(())
 }
 
 fn confirmed_refusal(
@@ -280,15 +257,15 @@ fn confirmed_refusal(
     disconnected: &[bool],
     last_frame: &[i32],
     count: u32,
-) -> u32
+) -> Result<(), Refusal>
     requires { Seated layer seats.now }
-    ensures { result ≡ calls.confirmed_refusal layer seats.now disconnected.now last_frame.now count }
+    ensures { number_in result ≡ calls.confirmed_refusal layer seats.now disconnected.now last_frame.now count }
 {
     if !one_each(layer, disconnected, last_frame) {
-        return frame_info::refusal::NO_SUCH_SEAT;
+        return Err(Refusal::NoSuchSeat);
     }
     if count == 0 {
-        return frame_info::refusal::FRAME_BELOW_ZERO;
+        return Err(Refusal::FrameBelowZero);
     }
     first_find_refusal(seats, layer, disconnected, last_frame, count)
 }
@@ -337,17 +314,14 @@ fn find_seats(
         × (inputs.new ≡ write_row layer.num_players inputs.old 0
         (calls.confirmed_word words.now disconnected.now last_frame.now count)) }
 {
-    let n = layer.num_players as usize;
-    let mut i: usize = 0;
-    while i < n {
+    for i in 0..layer.num_players as usize {
         frames[i] = confirmed_frame(disconnected, last_frame, count, i);
         inputs[i] = confirmed_word(words, disconnected, last_frame, count, i);
-        i += 1;
     }
 }
 
 // The stored word of every seat for a frame; -1 and blank for one that is gone: 2, 7, and then the
-// lowest seat that has none decides, by 11. Answers the number.
+// lowest seat that has none decides, by 11.
 pub fn confirmed_inputs(
     seats: &[u32],
     words: &[u32],
@@ -357,17 +331,14 @@ pub fn confirmed_inputs(
     frame: i32,
     frames: &mut [i32; MAX_SEATS],
     inputs: &mut [u32; MAX_SEATS],
-) -> u32
+) -> Result<(), Refusal>
     requires { Seated layer seats.now × WordRoom words.now }
-    ensures { (result ≡ calls.confirmed_number layer seats.now disconnected.now last_frame.now frame)
+    ensures { (number_in result ≡ calls.confirmed_number layer seats.now disconnected.now last_frame.now frame)
         × (frames.new ≡ calls.confirmed_frames layer seats.now disconnected.now last_frame.now frame frames.old)
         × (inputs.new ≡ calls.confirmed_words layer seats.now words.now disconnected.now last_frame.now frame inputs.old) }
 {
     let count = count_of(frame);
-    let no = confirmed_refusal(seats, layer, disconnected, last_frame, count);
-    if no != 0 {
-        return no;
-    }
+    confirmed_refusal(seats, layer, disconnected, last_frame, count)?;
     find_seats(
         words,
         layer,
@@ -377,5 +348,5 @@ pub fn confirmed_inputs(
         frames,
         inputs,
     );
-    0
+    Ok(())
 }

@@ -8,7 +8,6 @@ ghost use Rattle.sync_layer.specs.Whole.{SlotRoom};
 
 use crate::SLOT_WORDS;
 use console::Console;
-use frame_info::greater;
 
 // Where a frame's slot begins.
 pub fn slot_of(limit: u32, frame: u32) -> usize
@@ -55,21 +54,19 @@ pub fn clear_slots(slots: &mut [u32], n: usize)
     requires { (n ≤ suc max_limit) × SlotRoom slots.old }
     ensures { slots.new ≡ clear_slots n slots.old }
 {
-    let mut i: usize = 0;
-    while i < n {
-        let at = i * SLOT_WORDS;
-        slots[at] = 0;
-        i += 1;
+    for i in 0..n {
+        slots[i * SLOT_WORDS] = 0;
     }
 }
 
 fn within_both(low: u32, high: u32, count: u32) -> u32
     ensures { result ≡ within low high count }
 {
-    if count < low {
-        return 0;
+    if low <= count && count <= high {
+        count
+    } else {
+        0
     }
-    if count <= high { count } else { 0 }
 }
 
 // The highest frame's count that slots 0 to n - 1 hold within two others, 0 where there is none.
@@ -78,11 +75,8 @@ pub fn highest_in(slots: &[u32], n: usize, low: u32, high: u32) -> u32
     ensures { result ≡ highest_in n slots.now low high }
 {
     let mut highest = 0;
-    let mut i: usize = 0;
-    while i < n {
-        let at = i * SLOT_WORDS;
-        highest = greater(highest, within_both(low, high, slots[at]));
-        i += 1;
+    for i in 0..n {
+        highest = highest.max(within_both(low, high, slots[i * SLOT_WORDS]));
     }
     highest
 }

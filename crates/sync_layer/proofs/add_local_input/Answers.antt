@@ -1,12 +1,13 @@
 use Rattle.sync_layer.proofs.Answers.{locals}
 use borrow.Author.Rules.{rules}
+use Rattle.std.proofs.lemmas.Result.{err_from_is_err_and}
 use Rattle.sync_layer.proofs.add_local_input.Goals as goal
 
-pub returns-then-no-ne0 : goal.returns-then-no-ne0
-returns-then-no-ne0 c = search (rules, locals)
-
-pub place_input-place-requires : goal.place_input-place-requires
-place_input-place-requires c = search (rules, locals)
+pub place_input-requires : goal.place_input-requires
+place_input-requires c = search (rules, locals, c.in_ok-local_refusal.ensures)
 
 pub returns : goal.returns
-returns c = search (rules, locals)
+returns c = search (rules, locals, c.in_ok-local_refusal.ensures)
+
+pub returns-in_err-local_refusal : goal.returns-in_err-local_refusal
+returns-in_err-local_refusal c = let p = err_from_is_err_and c.from_residual.result c.from_residual.ensures.1 in rw (p.1, p.2) (search (rules, locals))

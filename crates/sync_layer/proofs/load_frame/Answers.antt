@@ -1,9 +1,7 @@
 use Rattle.sync_layer.proofs.Answers.{saves}
 use borrow.Author.Rules.{rules}
+use Rattle.std.proofs.lemmas.Result.{err_from_is_err_and}
 use Rattle.sync_layer.proofs.load_frame.Goals as goal
-
-pub returns-then-no-ne0 : goal.returns-then-no-ne0
-returns-then-no-ne0 c = search (rules, saves)
 
 pub overflow_sub-count : goal.overflow_sub-count
 overflow_sub-count c = search (rules, saves)
@@ -13,3 +11,6 @@ overflow_sub-count-2 c = search (rules, saves)
 
 pub returns : goal.returns
 returns c = search (rules, saves)
+
+pub returns-in_err-load_refusal : goal.returns-in_err-load_refusal
+returns-in_err-load_refusal c = let p = err_from_is_err_and c.from_residual.result c.from_residual.ensures.1 in rw (p.1, p.2) (search (rules, saves))

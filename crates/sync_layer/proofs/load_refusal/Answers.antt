@@ -11,8 +11,8 @@ returns-then-layer-count c = search (rules, saves)
 pub returns-then-count-layer : goal.returns-then-count-layer
 returns-then-count-layer c = search (rules, saves)
 
-pub returns-then-slot_holds : goal.returns-then-slot_holds
-returns-then-slot_holds c = search (rules, saves)
+pub returns-then-not-slot_holds : goal.returns-then-not-slot_holds
+returns-then-not-slot_holds c = search (rules, saves)
 
 pub returns : goal.returns
 returns c = search (rules, saves)

@@ -5,8 +5,8 @@ use Rattle.sync_layer.proofs.saved_refusal.Goals as goal
 pub returns-then-count-eq0 : goal.returns-then-count-eq0
 returns-then-count-eq0 c = search (rules, saves)
 
-pub returns-then-slot_holds : goal.returns-then-slot_holds
-returns-then-slot_holds c = search (rules, saves)
+pub returns-then-not-slot_holds : goal.returns-then-not-slot_holds
+returns-then-not-slot_holds c = search (rules, saves)
 
 pub returns : goal.returns
 returns c = search (rules, saves)

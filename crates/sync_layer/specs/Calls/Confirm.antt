@@ -5,7 +5,7 @@ use Rattle.frame_info.specs.Frame.{count_of, frame_of}
 use Rattle.frame_info.specs.Refusal.{done, frame_below_zero, above_mismatch}
 use Rattle.input_queue.specs.Queue.{discard}
 use Rattle.sync_layer.specs.declared.LayerState.{LayerState}
-use Rattle.sync_layer.specs.declared.Confirmed.{Confirmed}
+use Rattle.sync_layer.specs.Answer.{Confirmed}
 use Rattle.sync_layer.specs.Lists.{lowest_of}
 use Rattle.sync_layer.specs.Seats.{seat_at, map_seats}
 

@@ -5,10 +5,7 @@ use Rattle.frame_info.specs.Frame.{null_frame, last_count, count_of, frame_of}
 use Rattle.frame_info.specs.Refusal.{done, frame_too_high, frame_below_zero, load_not_past, load_too_old, slot_holds_another}
 use Rattle.console.specs.Step.{start}
 use Rattle.sync_layer.specs.declared.LayerState.{LayerState}
-use Rattle.sync_layer.specs.declared.Advanced.{Advanced}
-use Rattle.sync_layer.specs.declared.Loaded.{Loaded}
-use Rattle.sync_layer.specs.declared.Saved.{Saved}
-use Rattle.sync_layer.specs.declared.Latest.{Latest}
+use Rattle.sync_layer.specs.Answer.{Advanced, Loaded, Saved, Latest}
 use Rattle.sync_layer.specs.Slots.{slot_at, state_in, highest_in}
 
 -- the frames as the calls tell them

@@ -8,8 +8,7 @@ use Rattle.frame_info.specs.declared.PlayerInput.{PlayerInput}
 use Rattle.input_queue.specs.Queue.{reset}
 use Rattle.input_queue.specs.Calls as queue
 use Rattle.sync_layer.specs.declared.LayerState.{LayerState}
-use Rattle.sync_layer.specs.declared.Placed.{Placed}
-use Rattle.sync_layer.specs.declared.Announced.{Announced}
+use Rattle.sync_layer.specs.Answer.{Placed, Announced}
 use Rattle.sync_layer.specs.Seats.{ring_of, seat_at, set_seat, map_seats}
 
 -- 2, 7, 6, 3, 4

@@ -5,7 +5,7 @@ use Rattle.frame_info.specs.Frame.{max_delay, predictors}
 use Rattle.frame_info.specs.Refusal.{done, out_of_range}
 use Rattle.input_queue.specs.Queue.{fresh_state}
 use Rattle.sync_layer.specs.declared.LayerState.{LayerState}
-use Rattle.sync_layer.specs.declared.Opened.{Opened}
+use Rattle.sync_layer.specs.Answer.{Opened}
 use Rattle.sync_layer.specs.Seats.{max_seats, map_seats}
 use Rattle.sync_layer.specs.Slots.{max_limit, clear_slots}
 

@@ -1,9 +1,10 @@
-use Rattle.std.proofs.Common.{◌-◌, length}
-use Rattle.console.proofs.Laws.{Stepping}
+use Rattle.std.proofs.Common.{◌≡◌, drop}
+use Rattle.console.specs.Step.{head_after, seal_after}
 use Rattle.console.proofs.Console.step.Given as goal
 
-abbrev pub invariant-loop-i : goal.invariant-loop-i
-invariant-loop-i l = Stepping l.words l.initial.head l.initial.seal l.head l.seal l.i
-
-abbrev pub decreases-loop-i : goal.decreases-loop-i
-decreases-loop-i l = length l.words - l.i
+-- the words to come take the head and the seal where the whole row takes them
+abbrev pub invariant-loop-word : goal.invariant-loop-word
+invariant-loop-word l = record {
+  heads : head_after l.head (drop l.word-index l.words) ≡ head_after l.fn.self.head l.words;
+  seals : seal_after l.seal (drop l.word-index l.words) ≡ seal_after l.fn.self.seal l.words;
+}

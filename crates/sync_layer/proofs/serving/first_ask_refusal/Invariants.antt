@@ -1,10 +1,6 @@
-use Prim.Native.Nat.{◌-◌}
 use Rattle.sync_layer.proofs.Asking.{Unrefused}
 use Rattle.sync_layer.specs.Calls as calls
 use Rattle.sync_layer.proofs.serving.first_ask_refusal.Given as goal
 
 abbrev pub invariant-loop-i : goal.invariant-loop-i
 invariant-loop-i l = Unrefused l.layer.num_players (calls.ask_refusal l.layer l.seats l.disconnected l.last_frame) l.i
-
-abbrev pub decreases-loop-i : goal.decreases-loop-i
-decreases-loop-i l = l.layer.num_players - l.i

@@ -1,12 +1,13 @@
 use borrow.Author.Rules.{rules}
+use Rattle.std.proofs.lemmas.Result.{err_from_is_err_and}
 use Rattle.sync_layer.proofs.Asking.{lookups}
 use Rattle.sync_layer.proofs.serving.first_find_refusal.Goals as goal
 
 pub loop-i-init : goal.loop-i-init
 loop-i-init c = search (rules, lookups)
 
-pub returns-then-no-ne0 : goal.returns-then-no-ne0
-returns-then-no-ne0 c = search (rules, lookups)
-
 pub loop-i-preserved : goal.loop-i-preserved
 loop-i-preserved c = search (rules, lookups)
+
+pub returns-in_err-find_refusal : goal.returns-in_err-find_refusal
+returns-in_err-find_refusal c = let p = err_from_is_err_and c.from_residual.result c.from_residual.ensures.1 in rw (p.1, p.2) (search (rules, lookups))

@@ -1,6 +1,0 @@
-use Rattle.input_queue_value.proofs.Held.{holding}
-use borrow.Author.Rules.{rules}
-use Rattle.input_queue_value.proofs.InputQueue.input.Goals as goal
-
-pub returns : goal.returns
-returns c = search (rules, holding)
