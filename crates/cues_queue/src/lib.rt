@@ -3,7 +3,7 @@
 
 ghost use Rattle.std.specs.Prelude.{◌≡◌, ◌+◌, ◌≤◌, length};
 ghost use Rattle.input_queue_value.specs.Value.{Whole};
-ghost use Rattle.sheet.specs.Calls.{queue_number};
+ghost use Rattle.cues_queue.specs.Stub.{queue_number};
 ghost use Rattle.cues_text.specs.Text.{Puts};
 ghost use Rattle.cues_queue.specs.Queue as tells;
 
@@ -13,7 +13,6 @@ use cues_text::{
 };
 use frame_info::PlayerInput;
 use input_queue_value::InputQueue;
-use sheet::calls::QueueCall;
 
 fn open(args: &[u64], out: &mut [u8], at: usize) -> Told<InputQueue>
     requires { (2048 ≤ length args.now) × (at + 64 ≤ length out.old) }
@@ -27,6 +26,7 @@ fn open(args: &[u64], out: &mut [u8], at: usize) -> Told<InputQueue>
     }
 }
 
+#[tactic(auto, using(cues_text::proofs::Texts::told_refused))]
 fn add(args: &[u64], queue: InputQueue, out: &mut [u8], at: usize) -> Told<InputQueue>
     requires { (2048 ≤ length args.now) × (at + 64 ≤ length out.old) × Whole queue }
     ensures { (result.part ≡ tells.added args.now queue)
@@ -44,6 +44,7 @@ fn add(args: &[u64], queue: InputQueue, out: &mut [u8], at: usize) -> Told<Input
     }
 }
 
+#[tactic(auto, using(cues_text::proofs::Texts::told_refused))]
 fn request(args: &[u64], queue: InputQueue, out: &mut [u8], at: usize) -> Told<InputQueue>
     requires { (2048 ≤ length args.now) × (at + 64 ≤ length out.old) × Whole queue }
     ensures { (result.part ≡ tells.requested args.now queue)
@@ -61,6 +62,7 @@ fn request(args: &[u64], queue: InputQueue, out: &mut [u8], at: usize) -> Told<I
     }
 }
 
+#[tactic(auto, using(cues_text::proofs::Texts::told_refused))]
 fn confirmed(args: &[u64], queue: InputQueue, out: &mut [u8], at: usize) -> usize
     requires { (2048 ≤ length args.now) × (at + 64 ≤ length out.old) × Whole queue }
     ensures { Puts (tells.confirmed_text args.now queue) 63 at out.old out.new result }
@@ -99,6 +101,7 @@ fn reset(queue: InputQueue, out: &mut [u8], at: usize) -> Told<InputQueue>
     }
 }
 
+#[tactic(auto, using(cues_text::proofs::Texts::told_refused))]
 fn delay(args: &[u64], queue: InputQueue, out: &mut [u8], at: usize) -> Told<InputQueue>
     requires { (2048 ≤ length args.now) × (at + 64 ≤ length out.old) × Whole queue }
     ensures { (result.part ≡ tells.delayed args.now queue)
@@ -124,6 +127,7 @@ fn wrong(queue: InputQueue, out: &mut [u8], at: usize) -> usize
 }
 
 // Any call of the queue.
+#[tactic(auto, unfolding(crate::specs::Queue::queue_after, crate::specs::Queue::text_after))]
 pub fn make(
     call: QueueCall,
     args: &[u64],
@@ -152,3 +156,6 @@ pub fn make(
         },
     }
 }
+
+#[derive(Clone, Copy, Debug, PartialEq, Eq)]
+pub enum QueueCall { Open, Add, Request, Confirmed, Discard, Reset, Delay, Wrong }

@@ -57,6 +57,6 @@ unfolding answer_text
 told_done p q h = let p' = joined p q in record { ends = p'.ends; holds = p'.holds; within = omega (arith, p'.within, h) }
 
 -- a call that is refused tells its number, whatever it would have told
-pub told_refused : (e : Refusal) (v : List ℕ) → answer_text (number_of e) [] ≡ answer_text (number_of e) v
+pub told_refused : (e : Refusal) (v : List ℕ) → answer_text (number_of e) v ≡ answer_text (number_of e) []
 unfolding answer_text
 told_refused e v = ⊎_elim (λ a. absurd (number_some e a.0)) (λ a. simp a.1) (split_eqb (number_of e) 0)
