@@ -8,16 +8,13 @@ use Rattle.input_queue.specs.Ring.{queue_length}
 use Rattle.sync_layer.specs.Seats.{max_seats, seat_words}
 use Rattle.sync_layer.specs.Slots.{max_limit, slot_words}
 use Rattle.desk.specs.declared.DeskState.{DeskState}
-use Rattle.desk.specs.declared.Shown.{Shown}
+use Rattle.desk.specs.Answer.{Shown}
 use Rattle.desk.specs.Desk as m
 use Rattle.desk.specs.Calls.{show_says, show_words, log_says, log_bytes}
 use Rattle.desk.specs.Runs.{Call, take_call, settle_call, advance_call, show_call, log_call, run_from, run, Fit}
 use Rattle.desk_value.specs.declared.Desk.{Desk}
-use Rattle.desk_value.specs.declared.OpenedDesk.{OpenedDesk}
-use Rattle.desk_value.specs.declared.TakenDesk.{TakenDesk}
+use Rattle.desk_value.specs.Answer.{OpenedDesk, TakenDesk, AdvancedDesk, ShownDesk}
 use Rattle.desk_value.specs.declared.SettledDesk.{SettledDesk}
-use Rattle.desk_value.specs.declared.AdvancedDesk.{AdvancedDesk}
-use Rattle.desk_value.specs.declared.ShownDesk.{ShownDesk}
 use Rattle.desk_value.specs.Value as held
 use Rattle.desk_value.proofs.Kept.{zeros_room, opened_lent, held_opened_whole, held_after_whole}
 use Rattle.desk_value.proofs.Same.{held_run}

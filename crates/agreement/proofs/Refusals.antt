@@ -23,9 +23,7 @@ use Rattle.input_queue.specs.Ring.{word_at, add_words}
 use Rattle.input_queue.specs.Calls.{out_of_turn, overfull, add_refusal, add_input, input_words, input_refusal}
 use Rattle.input_queue.proofs.Cases.{input_done}
 use Rattle.sync_layer.specs.declared.LayerState.{LayerState}
-use Rattle.sync_layer.specs.declared.Loaded.{Loaded}
-use Rattle.sync_layer.specs.declared.Advanced.{Advanced}
-use Rattle.sync_layer.specs.declared.Confirmed.{Confirmed}
+use Rattle.sync_layer.specs.Answer.{Loaded, Advanced, Confirmed}
 use Rattle.sync_layer.specs.Lists.{write_row, lowest_of, first_refusal}
 use Rattle.sync_layer.specs.Seats.{max_seats, ring_of, set_seat, map_seats}
 use Rattle.sync_layer.specs.Slots.{served_from, slot_of, slot_at, state_in, save_slot}

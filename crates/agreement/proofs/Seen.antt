@@ -18,8 +18,7 @@ use Rattle.frame_info.proofs.Split.{split_eqb, split_bool}
 use Rattle.console.specs.declared.Console.{Console}
 use Rattle.console.specs.Step.{start, step_of}
 use Rattle.sync_layer.specs.Lists.{write_row}
-use Rattle.desk.specs.declared.Shown.{Shown}
-use Rattle.desk.specs.declared.Logged.{Logged}
+use Rattle.desk.specs.Answer.{Shown, Logged}
 use Rattle.desk.specs.Desk.{Desk, Setup, desk_of}
 use Rattle.desk.specs.Settled.{Settles, is_settled, shown_word, shown_state}
 use Rattle.desk.specs.Line.{line_of, line_length}

@@ -1,6 +1,7 @@
 -- From the code to the claims. A caller sets a desk up and makes calls. What each call does is what its contract promises, in src of `desk`:
 -- where the desk and the lists that it is lent are as it presumes, its answer and the lists that it may write are as it says. Below, each
--- contract stands as a record, equation by equation. A list that a call is not lent stands as [] in its contract, and stays as it was.
+-- contract stands as a record, equation by equation, with the call's `Result` as specs/Said.antt of `desk` reads it. A list that a call is not
+-- lent stands as [] in its contract, and stays as it was.
 use Rattle.std.specs.Prelude.{ℕ, ◌+◌, ◌≤◌, ◌<◌, List, [], ◌∷◌, ◌≡◌, eqb, ℤ, pos, negsuc, length, get_or}
 use Rattle.std.proofs.lemmas.List.Edits.{sets}
 use Rattle.frame_info.specs.Choice.{pick}
@@ -11,12 +12,8 @@ use Rattle.console.specs.declared.Console.{Console}
 use Rattle.console.specs.Step.{start, step_of}
 use Rattle.sync_layer.specs.Lists.{write_row}
 use Rattle.sync_layer.specs.Whole.{SeatRoom, WordRoom, SlotRoom}
-use Rattle.desk.specs.declared.Opened.{Opened}
-use Rattle.desk.specs.declared.Taken.{Taken}
+use Rattle.desk.specs.Answer.{Opened, Taken, Advanced, Shown, Logged}
 use Rattle.desk.specs.declared.Settled.{Settled}
-use Rattle.desk.specs.declared.Advanced.{Advanced}
-use Rattle.desk.specs.declared.Shown.{Shown}
-use Rattle.desk.specs.declared.Logged.{Logged}
 use Rattle.desk.specs.Desk.{Desk, Setup, desk_of, setup_with, setup_of, take, advance_answer}
 use Rattle.desk.specs.Settled.{Settles}
 use Rattle.desk.specs.Line.{line_of, line_length}

@@ -3,20 +3,18 @@
 use Rattle.std.specs.Prelude.{ℕ, List, [], ◌∷◌, ◌≡◌, ℤ, length}
 use Rattle.frame_info.specs.Word.{predicted}
 use Rattle.console.specs.Step.{step_of}
-use Rattle.desk.specs.declared.Logged.{Logged}
+use Rattle.desk.specs.Answer.{Logged}
 use Rattle.desk.specs.Calls.{log_says, log_bytes}
 use Rattle.desk.specs.Runs.{Call, take_call, settle_call, advance_call, show_call, log_call, Fit}
 use Rattle.desk_value.specs.declared.Desk.{Desk}
-use Rattle.desk_value.specs.declared.OpenedDesk.{OpenedDesk}
-use Rattle.desk_value.specs.declared.TakenDesk.{TakenDesk}
+use Rattle.desk_value.specs.Answer.{OpenedDesk, TakenDesk, AdvancedDesk, ShownDesk}
 use Rattle.desk_value.specs.declared.SettledDesk.{SettledDesk}
-use Rattle.desk_value.specs.declared.AdvancedDesk.{AdvancedDesk}
-use Rattle.desk_value.specs.declared.ShownDesk.{ShownDesk}
 use Rattle.desk_value.specs.Value as held
 use Rattle.agreement.specs.Statement.{run_of}
 use Rattle.agreement.specs.Chain.{in_force, ShowRight, LogRight}
 
--- The contracts. A caller's desk is the one in the answer; show and log take a copy.
+-- The contracts, with each `Result` as specs/Said.antt of `desk_value` reads it. A caller's desk is the one in the answer; show and log take a
+-- copy.
 pub record SetupMade (limit predictor : ℕ) (delays : List ℕ) (y : Desk) : Type 0 where
   pub answer : OpenedDesk
   pub promised : answer ≡ held.opened limit predictor delays

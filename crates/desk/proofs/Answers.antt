@@ -20,7 +20,12 @@ use Rattle.input_queue.specs.Queue.{add, place_count, confirms}
 use Rattle.input_queue.specs.Calls as queue
 use Rattle.input_queue.specs.Ring.{word_at, add_words}
 use Rattle.input_queue.specs.Whole as queues
-use Rattle.sync_layer.specs.declared.Opened as layers
+use Rattle.sync_layer.specs.declared.Opened.{Opened}
+use Rattle.sync_layer.specs.declared.LayerState.{LayerState}
+use Rattle.sync_layer.specs.Answer as layers
+use Rattle.sync_layer.specs.Said.{opened_said}
+use Rattle.frame_info.specs.Refusal.{number_given}
+use Rattle.frame_info.proofs.Refusals.{number_some, done_of}
 use Rattle.sync_layer.specs.Lists.{write_row, lowest_of}
 use Rattle.sync_layer.specs.Seats.{seat_at, set_seat}
 use Rattle.sync_layer.specs.Calls as layer
@@ -34,14 +39,17 @@ use Rattle.desk.specs.Whole.{Seated}
 use Rattle.desk.proofs.Kept.{Accepts, take_accepts}
 
 -- Setup, from what the layer's answers
-module _ (limit p : ℕ) (delays l m : List ℕ) (o : layers.Opened) (e : o ≡ layer.opened limit p delays) where
-  pub setup_number : o.no ≡ calls.setup_answer limit p delays
+module _ (limit p : ℕ) (delays l m : List ℕ) (o : Opened) (e : opened_said o ≡ layer.opened limit p delays) where
+  pub setup_number : number_given o.refused ≡ calls.setup_answer limit p delays
   unfolding calls.setup_answer layer.opened
   setup_number = ap (λ (x : layers.Opened). x.no) e ∙ ⊎_elim (λ (a : layer.fits limit p delays ≡ true). simp a) (λ (a : layer.fits limit p delays ≡ false). simp a) (split_bool (layer.fits limit p delays))
 
+  fresh-layer : o.layer ≡ (layer.opened limit p delays).layer
+  fresh-layer = ap (λ (x : layers.Opened). x.layer) e
+
   fresh-state : record { seats = o.layer.num_players; limit = o.layer.max_prediction; predictor = o.layer.predictor; current = 0; console = start } ≡ setup_state limit p delays
   unfolding setup_state layer.opened
-  fresh-state = rw e (⊎_elim (λ (a : layer.fits limit p delays ≡ true). simp a) (λ (a : layer.fits limit p delays ≡ false). simp a) (split_bool (layer.fits limit p delays)))
+  fresh-state = rw fresh-layer (⊎_elim (λ (a : layer.fits limit p delays ≡ true). simp a) (λ (a : layer.fits limit p delays ≡ false). simp a) (split_bool (layer.fits limit p delays)))
 
   pub setup_desk : (k : Console) (l' m' : List ℕ) → k ≡ start → l' ≡ layer.opened_seats limit p delays l → m' ≡ layer.opened_slots limit p delays m
       → desk_of (record { seats = o.layer.num_players; limit = o.layer.max_prediction; predictor = o.layer.predictor; current = 0; console = k }) l' [] m'
@@ -136,7 +144,7 @@ module _ (y : DeskState) (l w : List ℕ) (s : ℕ) (c n : ℕ) (g : n ≡ take_
       unfolding take taken
       take_desk x t l' w' i j k = rw (← number, k, i, j, a, d, e) (simp (eq-eqb _ _ z))
 
-pub ruleset taking = (take-room, take_some, take_low, take_ring, take_queue, take_refused, take_untouched, take_done, take_desk)
+pub ruleset taking = (number_some, done_of, take-room, take_some, take_low, take_ring, take_queue, take_refused, take_untouched, take_done, take_desk)
 
 -- Settle's report
 module _ (m c : ℕ) where
@@ -264,7 +272,7 @@ module _ (y : DeskState) (l : List ℕ) (n : ℕ) where
         (λ a. a.0)
         (split_ltb room (9 * (y.seats + 2)))
 
-pub ruleset numbers = (show_below, show_settled, show_not, log_unshown, log_short, log-fits)
+pub ruleset numbers = (number_some, done_of, show_below, show_settled, show_not, log_unshown, log_short, log-fits)
 
 -- and the calls
 module _ (y : DeskState) (l m : List ℕ) (f f' : ℤ) (c : ℕ) (e : f' ≡ f) (d : c ≡ count_of f') where
@@ -314,9 +322,9 @@ module _ (y : DeskState) (l m : List ℕ) (f f' : ℤ) (c : ℕ) (e : f' ≡ f) 
       unfolding calls.log_bytes
       log_written o' a = rw (← log_number, a, d, e) (simp (eq-eqb _ _ z))
 
-pub ruleset shows = (show_some, show_refused, show_untouched, show_done, show_written)
+pub ruleset shows = (number_some, done_of, show_some, show_refused, show_untouched, show_done, show_written)
 
-pub ruleset logs = (log_some, log_room, log_refused, log_untouched, log_done, log_written)
+pub ruleset logs = (number_some, done_of, log_some, log_room, log_refused, log_untouched, log_done, log_written)
 
 -- how a word stands
 module _ (s : QueueState) (f : ℕ) where

@@ -3,10 +3,11 @@ use Prim.Native.Nat.{ℕ, zero, suc, ◌+◌, ◌-◌, ◌*◌, ◌<◌, ◌≤�
 use native.Mathlib.Omega.{arith}
 use native.Mathlib.Nat.{zero-add}
 use native.Mathlib.Numerals.{add-one}
-use mathlib.Core.Path.{◌≡◌, refl, ap, ap₂, ◌∙◌}
+use mathlib.Core.Path.{◌≡◌, refl, sym, ap, ap₂, ◌∙◌}
 use mathlib.Core.List.{List, [], ◌∷◌, ◌++◌}
-use lib.ListN.{length, get_or, set, take, drop, length-set, length-drop}
-use lib.Seq.{take-suc, get_or-drop}
+use lib.ListN.{length, get_or, set, take, drop, length-drop, length-set}
+use Rattle.std.proofs.lemmas.List.{get_or-drop, length-take-le, append_assoc}
+use lib.Seq.{take-suc, drop-cons, set-append_seam}
 use Rattle.console.specs.declared.Console.{Console}
 use Rattle.input_queue.specs.declared.QueueState.{QueueState}
 use Rattle.sync_layer.specs.Lists.{write_row}
@@ -90,14 +91,29 @@ write_eq zero l base g h e = refl
 write_eq (suc n) l base g h e =
     ap₂ (λ (x : List ℕ) (w : ℕ). set x (base + n) w) (write_eq n l base g h (λ k p. e k (omega arith))) (e n (omega arith))
 
--- the words of a frame's slot, all written
-pub shown_written : (y : DeskState) (m : List ℕ) (f at : ℕ) (o o' : List ℕ) (i : ℕ) → Written y.seats (λ s. get_or m (at + 4 + s) 0) o o' i → y.seats ≤ i
-    → at ≡ slot_of y.limit f → o' ≡ write_row y.seats o 0 (shown_word (desk_of y [] [] m) f)
-shown_written y m f at o o' i v p e =
-    written_end y.seats (λ s. get_or m (at + 4 + s) 0) o o' i v p
-    ∙ write_eq y.seats o 0 (λ s. get_or m (at + 4 + s) 0) (shown_word (desk_of y [] [] m) f) (λ s q. slot_word y.limit m f at s e)
+-- a row that is copied to the front
+copied : (n : ℕ) (x o : List ℕ) → n ≤ length x → n ≤ length o → take n x ++ drop n o ≡ write_row n o 0 (λ s. get_or x s 0)
+unfolding write_row
+copied zero x o p q = refl
+copied (suc n) x o p q =
+    let e : length (take n x) ≡ n = length-take-le n x (omega arith) in
+    let k : n < length o = omega arith in
+    let h : n < length x = omega arith in
+    let seam : set (take n x ++ (get_or o n 0 ∷ drop (suc n) o)) n (get_or x n 0) ≡ take n x ++ (get_or x n 0 ∷ drop (suc n) o)
+        = rw e at (set-append_seam (take n x) (get_or o n 0) (drop (suc n) o) (get_or x n 0)) in
+    rw (← copied n x o (omega arith) (omega arith), take-suc x n 0 h, drop-cons o n 0 k, zero-add, append_assoc) (sym seam)
 
-pub ruleset writing = (written_start, written_turn, written_end, slot_reach, shown_written)
+-- the words of a frame's slot, all written
+pub words_copied : (y : DeskState) (m : List ℕ) (f at : ℕ) (o w : List ℕ) → Ready y → SlotRoom m → at ≤ y.limit * 16 → y.seats ≤ length o → at ≡ slot_of y.limit f
+    → w ≡ take (at + 4 + y.seats - (at + 4)) (drop (at + 4) m) → w ++ drop y.seats o ≡ write_row y.seats o 0 (shown_word (desk_of y [] [] m) f)
+words_copied y m f at o w r s b q e g =
+    let k : at + 4 + y.seats - (at + 4) ≡ y.seats = omega arith in
+    let h : y.seats ≤ length (drop (at + 4) m) = simp length-drop (omega (arith, r.few, r.near)) in
+    rw (g, k)
+    (copied y.seats (drop (at + 4) m) o h q
+    ∙ write_eq y.seats o 0 (λ s. get_or (drop (at + 4) m) s 0) (shown_word (desk_of y [] [] m) f) (λ s p. get_or-drop (at + 4) m s 0 ∙ slot_word y.limit m f at s e))
+
+pub ruleset writing = (written_start, written_turn, written_end, slot_reach, words_copied)
 
 -- a part of a list is a row
 pub part_row : (n : ℕ) (l : List ℕ) (a : ℕ) → a + n ≤ length l → take n (drop a l) ≡ row_of n (λ k. get_or l (a + k) 0)

@@ -10,10 +10,8 @@ use Rattle.input_queue.specs.Queue.{place_count, confirms}
 use Rattle.sync_layer.specs.Lists.{write_row}
 use Rattle.sync_layer.specs.Calls as layer
 use Rattle.desk.specs.declared.DeskState.{DeskState}
-use Rattle.desk.specs.declared.Taken.{Taken}
 use Rattle.desk.specs.declared.Report.{Report}
-use Rattle.desk.specs.declared.Shown.{Shown}
-use Rattle.desk.specs.declared.Logged.{Logged}
+use Rattle.desk.specs.Answer.{Taken, Shown, Logged}
 use Rattle.desk.specs.Desk.{Desk, queue_of, known_of, mismatch_of, take_answer, advance_answer, serve, one_frame, settle, advance}
 use Rattle.desk.specs.Settled.{is_settled, shown_word, shown_words, shown_state}
 use Rattle.desk.specs.Line.{line_of, line_length}

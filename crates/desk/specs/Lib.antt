@@ -2,6 +2,8 @@ pub mod Lists
 pub mod Desk
 pub mod Settled
 pub mod Line
+pub mod Answer
 pub mod Calls
+pub mod Said
 pub mod Runs
 pub mod Whole

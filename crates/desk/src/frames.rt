@@ -16,7 +16,6 @@ ghost use Rattle.desk.specs.Whole.{Ready, Seated, Whole};
 
 use crate::DeskState;
 use crate::showing::known_count;
-use frame_info::lesser;
 use sync_layer::{
     SERVED_FROM, ask_seat, discard_seats, reset_seats, save_slot, slot_of, state_in, status_of,
 };
@@ -32,11 +31,9 @@ fn serve_seats(seats: &mut [u32], words: &[u32], slots: &mut [u32], desk: DeskSt
     let n = desk.seats as usize;
     let current = desk.current;
     let predictor = desk.predictor;
-    let mut i: usize = 0;
-    while i < n {
+    for i in 0..n {
         let asked = ask_seat(seats, words, predictor, current + 1, i);
         slots[from + i] = asked.word;
-        i += 1;
     }
 }
 
@@ -67,11 +64,9 @@ fn next_frame(slots: &[u32], desk: DeskState, from: usize) -> DeskState
     let state = desk.console;
     let end = from + desk.seats as usize;
     DeskState {
-        seats: desk.seats,
-        limit: desk.limit,
-        predictor: desk.predictor,
         current: desk.current + 1,
         console: state.step(&slots[from..end]),
+        ..desk
     }
 }
 
@@ -97,14 +92,7 @@ fn play(seats: &mut [u32], words: &[u32], slots: &mut [u32], desk: DeskState, en
         return next;
     }
     // What is lent to a call stays in memory. A copy is lent, so that `next` need not.
-    let console = next.console;
-    let rest = DeskState {
-        seats: next.seats,
-        limit: next.limit,
-        predictor: next.predictor,
-        current: next.current,
-        console,
-    };
+    let rest = DeskState { ..next };
     play(seats, words, slots, rest, end)
 }
 
@@ -131,14 +119,10 @@ fn load(slots: &[u32], desk: DeskState, frame: u32) -> DeskState
     requires { Ready desk × SlotRoom slots.now }
     ensures { result ≡ (m.load (m.desk_of desk [] [] slots.now) frame).state }
 {
-    let limit = desk.limit;
-    let console = state_in(slots, limit, frame);
     DeskState {
-        seats: desk.seats,
-        limit,
-        predictor: desk.predictor,
         current: frame,
-        console,
+        console: state_in(slots, desk.limit, frame),
+        ..desk
     }
 }
 
@@ -171,7 +155,7 @@ pub fn confirm(seats: &mut [u32], desk: DeskState)
     if known == 0 {
         return;
     }
-    let frame = lesser(known - 1, desk.current);
+    let frame = desk.current.min(known - 1);
     if frame == 0 {
         return;
     }
@@ -203,13 +187,11 @@ fn serve_row(
     let n = desk.seats as usize;
     let current = desk.current;
     let predictor = desk.predictor;
-    let mut i: usize = 0;
-    while i < n {
+    for i in 0..n {
         let asked = ask_seat(seats, words, predictor, current + 1, i);
         slots[from + i] = asked.word;
         served[i] = asked.word;
         statuses[i] = status_of(asked.confirmed);
-        i += 1;
     }
 }
 

@@ -3,8 +3,8 @@
 //
 // A desk is seven numbers, `DeskState`, that go by value, and three lists of numbers that the
 // caller lends: the seats' queues, their words, and the saved slots. Each call takes only those
-// that it touches, and tests for itself. One that refuses answers its number, the desk as it was
-// given, and writes nothing. A refused setup alone writes: it leaves a fresh desk of one seat, which
+// that it touches, and tests for itself. One that refuses answers why, and writes nothing: the desk that
+// it was given stands. A refused setup alone writes: it leaves a fresh desk of one seat, which
 // is a seat's numbers and the first slot.
 #![tactic(auto)]
 
@@ -14,18 +14,21 @@ mod showing;
 
 ghost use Rattle.std.specs.Prelude.{◌≡◌, [], ◌+◌, ◌-◌, ◌*◌, ◌≤◌, ◌<◌, length};
 ghost use Rattle.frame_info.specs.Frame.{count_of};
+ghost use Rattle.frame_info.specs.Refusal.{number_in, number_given};
 ghost use Rattle.sync_layer.specs.Whole.{SeatRoom, WordRoom, SlotRoom};
 ghost use Rattle.desk.specs.Desk as m;
 ghost use Rattle.desk.specs.Calls as calls;
+ghost use Rattle.desk.specs.Said.{taken_said, advanced_said};
 ghost use Rattle.desk.specs.Whole.{Ready, Seated, Whole};
 
 use console::Console;
-use frame_info::{count_of, frame_of};
+use frame_info::refusal::Refusal;
+use frame_info::{LAST_COUNT, NULL_FRAME, count_of, frame_of};
 use input_queue::INPUT_QUEUE_LENGTH;
 pub use showing::{known, log, show};
 use sync_layer::{MAX_SEATS, lowest_wrong, seat_at, set_seat};
 
-#[derive(Clone, Copy)]
+#[derive(Clone, Copy, Debug, PartialEq, Eq)]
 pub struct DeskState {
     pub seats: u32,
     pub limit: u32,
@@ -35,49 +38,27 @@ pub struct DeskState {
     pub console: Console,
 }
 
-#[derive(Clone, Copy)]
+// A setup's answer. One that is refused hands back a fresh desk too: so the two stand side by side,
+// and are no `Result`.
+#[derive(Clone, Copy, Debug, PartialEq, Eq)]
 pub struct Opened {
-    pub no: u32,
+    pub refused: Option<Refusal>,
     pub desk: DeskState,
-}
-
-#[derive(Clone, Copy)]
-pub struct Taken {
-    pub no: u32,
-    pub place: i32,
 }
 
 // What was corrected: the lowest mismatch, and how many frames were replayed from it; -1 and 0 where
 // no mismatch stood.
-#[derive(Clone, Copy)]
+#[derive(Clone, Copy, Debug, PartialEq, Eq)]
 pub struct Report {
     pub frame: i32,
     pub count: u32,
 }
 
-#[derive(Clone, Copy)]
+// What was corrected, and the desk after the call.
+#[derive(Clone, Copy, Debug, PartialEq, Eq)]
 pub struct Settled {
     pub report: Report,
     pub desk: DeskState,
-}
-
-#[derive(Clone, Copy)]
-pub struct Advanced {
-    pub no: u32,
-    pub report: Report,
-    pub desk: DeskState,
-}
-
-#[derive(Clone, Copy)]
-pub struct Shown {
-    pub no: u32,
-    pub console: Console,
-}
-
-#[derive(Clone, Copy)]
-pub struct Logged {
-    pub no: u32,
-    pub count: u32,
 }
 
 // A fresh desk, one delay for each seat: 1 where anything is out of range, and then a desk of one
@@ -90,13 +71,13 @@ pub fn setup(
     delays: &[u32],
 ) -> Opened
     requires { SeatRoom seats.old × SlotRoom slots.old }
-    ensures { (result.no ≡ calls.setup_answer limit predictor delays.now)
+    ensures { (number_given result.refused ≡ calls.setup_answer limit predictor delays.now)
         × (m.desk_of result.desk seats.new [] slots.new ≡ m.setup_of (m.setup_with limit predictor delays.now seats.old [] slots.old)) }
 {
     let o = sync_layer::new(seats, slots, limit, predictor, delays);
     let layer = o.layer;
     Opened {
-        no: o.no,
+        refused: o.refused,
         desk: DeskState {
             seats: layer.num_players,
             limit: layer.max_prediction,
@@ -107,23 +88,23 @@ pub fn setup(
     }
 }
 
-// The number by which a word is refused, 0 for none.
-fn take_refusal(seats: &[u32], desk: DeskState, seat: u32, count: u32) -> u32
+// Why a word is refused, if it is.
+fn take_refusal(seats: &[u32], desk: DeskState, seat: u32, count: u32) -> Result<(), Refusal>
     requires { Seated desk seats.now }
-    ensures { result ≡ m.take_answer (m.desk_of desk seats.now [] []) seat count }
+    ensures { number_in result ≡ m.take_answer (m.desk_of desk seats.now [] []) seat count }
 {
     if desk.seats <= seat {
-        return frame_info::refusal::NO_SUCH_SEAT;
+        return Err(Refusal::NoSuchSeat);
     }
     if count == 0 {
-        return frame_info::refusal::FRAME_BELOW_ZERO;
+        return Err(Refusal::FrameBelowZero);
     }
-    if count > frame_info::LAST_COUNT {
-        return frame_info::refusal::FRAME_TOO_HIGH;
+    if count > LAST_COUNT {
+        return Err(Refusal::FrameTooHigh);
     }
     let s = seat_at(seats, seat as usize);
     if count - 1 != s.last_user_count {
-        return frame_info::refusal::NOT_NEXT_FRAME;
+        return Err(Refusal::NotNextFrame);
     }
     input_queue::add_refusal(s, count)
 }
@@ -137,25 +118,18 @@ pub fn take(
     seat: u32,
     frame: i32,
     word: u32,
-) -> Taken
+) -> Result<i32, Refusal>
     requires { Seated desk seats.old × WordRoom words.old }
-    ensures { (result ≡ calls.take_says (m.desk_of desk seats.old words.old []) seat frame)
+    ensures { (taken_said result ≡ calls.take_says (m.desk_of desk seats.old words.old []) seat frame)
         × (m.desk_of desk seats.new words.new [] ≡ m.take (m.desk_of desk seats.old words.old []) seat (count_of frame) word) }
 {
     let count = count_of(frame);
-    let no = take_refusal(&seats[..], desk, seat, count);
-    if no != 0 {
-        return Taken { no, place: -1 };
-    }
+    take_refusal(&seats[..], desk, seat, count)?;
     let i = seat as usize;
     let s = seat_at(&seats[..], i);
     let stored = input_queue::store(words, i * INPUT_QUEUE_LENGTH, s, count - 1, word);
-    let state = stored.state;
-    set_seat(seats, i, state);
-    Taken {
-        no: 0,
-        place: frame_of(stored.place),
-    }
+    set_seat(seats, i, stored.state);
+    Ok(frame_of(stored.place))
 }
 
 fn report_at(lowest: u32, current: u32) -> Report
@@ -164,7 +138,7 @@ fn report_at(lowest: u32, current: u32) -> Report
 {
     if lowest == 0 {
         return Report {
-            frame: -1,
+            frame: NULL_FRAME,
             count: 0,
         };
     }
@@ -187,33 +161,29 @@ pub fn settle(seats: &mut [u32], words: &[u32], slots: &mut [u32], desk: DeskSta
     // A replay ends at the current frame, so that the console is all of the desk that is corrected.
     // The other numbers are the ones that were given: they need not be read back.
     let corrected = frames::correct(seats, words, slots, desk, lowest);
-    let console = corrected.console;
     frames::confirm(seats, desk);
     Settled {
         report,
         desk: DeskState {
-            seats: desk.seats,
-            limit: desk.limit,
-            predictor: desk.predictor,
-            current: desk.current,
-            console,
+            console: corrected.console,
+            ..desk
         },
     }
 }
 
-// The number by which an advance is refused, 0 for none.
-fn advance_refusal(seats: &[u32], desk: DeskState) -> u32
+// Why an advance is refused, if it is.
+fn advance_refusal(seats: &[u32], desk: DeskState) -> Result<(), Refusal>
     requires { Seated desk seats.now }
-    ensures { result ≡ m.advance_answer (m.desk_of desk seats.now [] []) }
+    ensures { number_in result ≡ m.advance_answer (m.desk_of desk seats.now [] []) }
 {
     let next = desk.current + 1;
-    if next >= frame_info::LAST_COUNT {
-        return frame_info::refusal::FRAME_TOO_HIGH;
+    if next >= LAST_COUNT {
+        return Err(Refusal::FrameTooHigh);
     }
     if desk.limit + showing::known_count(seats, desk) < next {
-        return frame_info::refusal::TOO_FAR_AHEAD;
+        return Err(Refusal::TooFarAhead);
     }
-    0
+    Ok(())
 }
 
 // An advance into lists that have a place for every seat, for callers who have tested that.
@@ -224,31 +194,21 @@ pub fn advance_into(
     desk: DeskState,
     served: &mut [u32],
     statuses: &mut [u32],
-) -> Advanced
+) -> Result<Settled, Refusal>
     requires { Whole (m.desk_of desk seats.old words.now slots.old) × (desk.seats ≤ length served.old) × (desk.seats ≤ length statuses.old) }
-    ensures { (result.no ≡ m.advance_answer (m.desk_of desk seats.old words.now slots.old))
-        × (result.report ≡ calls.advance_report (m.desk_of desk seats.old words.now slots.old))
-        × (m.desk_of result.desk seats.new words.now slots.new ≡ calls.advance_of (m.desk_of desk seats.old words.now slots.old))
+    ensures { (number_in result ≡ m.advance_answer (m.desk_of desk seats.old words.now slots.old))
+        × ((advanced_said desk result).report ≡ calls.advance_report (m.desk_of desk seats.old words.now slots.old))
+        × (m.desk_of (advanced_said desk result).desk seats.new words.now slots.new ≡ calls.advance_of (m.desk_of desk seats.old words.now slots.old))
         × (served.new ≡ calls.advance_served (m.desk_of desk seats.old words.now slots.old) served.old)
         × (statuses.new ≡ calls.advance_statuses (m.desk_of desk seats.old words.now slots.old) statuses.old) }
 {
-    let no = advance_refusal(&seats[..], desk);
-    if no != 0 {
-        return Advanced {
-            no,
-            report: report_at(0, 0),
-            desk,
-        };
-    }
-    let s = settle(seats, words, slots, desk);
-    let settled = s.desk;
-    let report = s.report;
-    let next = frames::serve_frame(seats, words, slots, settled, served, statuses);
-    Advanced {
-        no: 0,
-        report,
+    advance_refusal(&seats[..], desk)?;
+    let settled = settle(seats, words, slots, desk);
+    let next = frames::serve_frame(seats, words, slots, settled.desk, served, statuses);
+    Ok(Settled {
+        report: settled.report,
         desk: next,
-    }
+    })
 }
 
 // Serves one frame: 6, 5, changing nothing; else settles, saves, requests all seats, steps, and goes
@@ -261,11 +221,11 @@ pub fn advance(
     desk: DeskState,
     served: &mut [u32; MAX_SEATS],
     statuses: &mut [u32; MAX_SEATS],
-) -> Advanced
+) -> Result<Settled, Refusal>
     requires { Whole (m.desk_of desk seats.old words.now slots.old) }
-    ensures { (result.no ≡ m.advance_answer (m.desk_of desk seats.old words.now slots.old))
-        × (result.report ≡ calls.advance_report (m.desk_of desk seats.old words.now slots.old))
-        × (m.desk_of result.desk seats.new words.now slots.new ≡ calls.advance_of (m.desk_of desk seats.old words.now slots.old))
+    ensures { (number_in result ≡ m.advance_answer (m.desk_of desk seats.old words.now slots.old))
+        × ((advanced_said desk result).report ≡ calls.advance_report (m.desk_of desk seats.old words.now slots.old))
+        × (m.desk_of (advanced_said desk result).desk seats.new words.now slots.new ≡ calls.advance_of (m.desk_of desk seats.old words.now slots.old))
         × (served.new ≡ calls.advance_served (m.desk_of desk seats.old words.now slots.old) served.old)
         × (statuses.new ≡ calls.advance_statuses (m.desk_of desk seats.old words.now slots.old) statuses.old) }
 {

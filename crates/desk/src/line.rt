@@ -32,10 +32,8 @@ fn put_row(out: &mut [u8], at: usize, slots: &[u32], from: usize, n: usize) -> u
     ensures { (result ≡ at + field_length * n) × (out.new ≡ sets out.old at (spaced (row_of n (λ s. get_or slots.now (from + s) 0)))) }
 {
     let mut next = at;
-    let mut i: usize = 0;
-    while i < n {
+    for i in 0..n {
         next = put_spaced(out, next, slots[from + i]);
-        i += 1;
     }
     next
 }

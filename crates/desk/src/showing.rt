@@ -1,18 +1,21 @@
 // What is known, what is settled, and what a settled frame shows.
 ghost use Rattle.std.specs.Prelude.{◌≡◌, [], ◌+◌, ◌-◌, ◌*◌, ◌≤◌, ◌<◌, length};
 ghost use Rattle.frame_info.specs.Frame.{last_count};
+ghost use Rattle.frame_info.specs.Refusal.{number_in};
 ghost use Rattle.console.specs.Step.{step_of};
 ghost use Rattle.sync_layer.specs.Lists.{write_row};
 ghost use Rattle.sync_layer.specs.Whole.{SlotRoom};
 ghost use Rattle.desk.specs.Desk as m;
 ghost use Rattle.desk.specs.Calls as calls;
+ghost use Rattle.desk.specs.Said.{shown_said, logged_said};
 ghost use Rattle.desk.specs.Settled as settled;
 ghost use Rattle.desk.specs.Whole.{Ready, Seated};
 
+use crate::DeskState;
 use crate::line::{FIELD_LENGTH, put_line};
-use crate::{DeskState, Logged, Shown};
 use console::Console;
-use frame_info::{count_of, frame_of, lesser};
+use frame_info::refusal::Refusal;
+use frame_info::{count_of, frame_of};
 use sync_layer::{MAX_SEATS, SERVED_FROM, lowest_wrong, seat_at, slot_of, state_in};
 
 // K as a count: the least newest place over the seats.
@@ -20,14 +23,11 @@ pub fn known_count(seats: &[u32], desk: DeskState) -> u32
     requires { Seated desk seats.now }
     ensures { result ≡ m.known_of (m.desk_of desk seats.now [] []) }
 {
-    let n = desk.seats as usize;
     let first = seat_at(seats, 0);
     let mut least = first.last_added_count;
-    let mut i: usize = 1;
-    while i < n {
+    for i in 1..desk.seats as usize {
         let s = seat_at(seats, i);
-        least = lesser(least, s.last_added_count);
-        i += 1;
+        least = least.min(s.last_added_count);
     }
     least
 }
@@ -45,40 +45,32 @@ fn right_up_to(seats: &[u32], desk: DeskState, frame: u32) -> bool
     ensures { result ≡ settled.right_up_to (m.desk_of desk seats.now [] []) frame }
 {
     let lowest = lowest_wrong(seats, desk.seats as usize);
-    if lowest == 0 {
-        return true;
-    }
-    frame + 1 < lowest
+    lowest == 0 || frame + 1 < lowest
 }
 
+#[tactic(auto, using(crate::proofs::Answers::settling), unfolding(crate::specs::Settled::is_settled))]
 fn is_settled(seats: &[u32], desk: DeskState, frame: u32) -> bool
     requires { Seated desk seats.now }
     ensures { result ≡ settled.is_settled (m.desk_of desk seats.now [] []) frame }
 {
-    if frame >= desk.current {
-        return false;
-    }
-    if frame + 1 + desk.limit < desk.current {
-        return false;
-    }
-    if frame >= known_count(seats, desk) {
-        return false;
-    }
-    right_up_to(seats, desk, frame)
+    frame < desk.current
+        && desk.current <= frame + 1 + desk.limit
+        && frame < known_count(seats, desk)
+        && right_up_to(seats, desk, frame)
 }
 
-// The number by which a frame is not shown, 0 for none.
-fn show_refusal(seats: &[u32], desk: DeskState, count: u32) -> u32
+// Why a frame is not shown, if it is not.
+fn show_refusal(seats: &[u32], desk: DeskState, count: u32) -> Result<(), Refusal>
     requires { Seated desk seats.now }
-    ensures { result ≡ calls.show_answer (m.desk_of desk seats.now [] []) count }
+    ensures { number_in result ≡ calls.show_answer (m.desk_of desk seats.now [] []) count }
 {
     if count == 0 {
-        return frame_info::refusal::FRAME_BELOW_ZERO;
+        return Err(Refusal::FrameBelowZero);
     }
-    if is_settled(seats, desk, count - 1) {
-        return 0;
+    if !is_settled(seats, desk, count - 1) {
+        return Err(Refusal::NotSettled);
     }
-    frame_info::refusal::NOT_SETTLED
+    Ok(())
 }
 
 // The words of a frame's slot.
@@ -88,11 +80,7 @@ fn put_words(slots: &[u32], desk: DeskState, frame: u32, out: &mut [u32])
 {
     let n = desk.seats as usize;
     let from = slot_of(desk.limit, frame) + SERVED_FROM;
-    let mut i: usize = 0;
-    while i < n {
-        out[i] = slots[from + i];
-        i += 1;
-    }
+    out[..n].copy_from_slice(&slots[from..from + n]);
 }
 
 // The state of a frame's slot, stepped once with its words.
@@ -113,55 +101,43 @@ pub fn show(
     desk: DeskState,
     frame: i32,
     out: &mut [u32; MAX_SEATS],
-) -> Shown
+) -> Result<Console, Refusal>
     requires { Seated desk seats.now × SlotRoom slots.now }
-    ensures { (result ≡ calls.show_says (m.desk_of desk seats.now [] slots.now) frame)
+    ensures { (shown_said result ≡ calls.show_says (m.desk_of desk seats.now [] slots.now) frame)
         × (out.new ≡ calls.show_words (m.desk_of desk seats.now [] slots.now) frame out.old) }
 {
     let count = count_of(frame);
-    let no = show_refusal(seats, desk, count);
-    if no != 0 {
-        return Shown {
-            no,
-            console: Console::new(),
-        };
-    }
+    show_refusal(seats, desk, count)?;
     put_words(slots, desk, count - 1, out);
-    Shown {
-        no: 0,
-        console: shown_state(slots, desk, count - 1),
-    }
+    Ok(shown_state(slots, desk, count - 1))
 }
 
-// The number by which a frame is not logged into so many bytes, 0 for none.
-fn log_refusal(seats: &[u32], desk: DeskState, count: u32, room: usize) -> u32
+// Why a frame is not logged into so many bytes, if it is not.
+fn log_refusal(seats: &[u32], desk: DeskState, count: u32, room: usize) -> Result<(), Refusal>
     requires { Seated desk seats.now }
-    ensures { result ≡ calls.log_answer (m.desk_of desk seats.now [] []) count room }
+    ensures { number_in result ≡ calls.log_answer (m.desk_of desk seats.now [] []) count room }
 {
-    let no = show_refusal(seats, desk, count);
-    if no != 0 {
-        return no;
-    }
+    show_refusal(seats, desk, count)?;
     if room < FIELD_LENGTH * (desk.seats as usize + 2) {
-        return frame_info::refusal::NO_ROOM_FOR_BYTES;
+        return Err(Refusal::NoRoomForBytes);
     }
-    0
+    Ok(())
 }
 
 // A settled frame's log line: 7, 21, 20. Answers how many bytes it takes; those past it stay.
-pub fn log(slots: &[u32], seats: &[u32], desk: DeskState, frame: i32, out: &mut [u8]) -> Logged
+pub fn log(
+    slots: &[u32],
+    seats: &[u32],
+    desk: DeskState,
+    frame: i32,
+    out: &mut [u8],
+) -> Result<u32, Refusal>
     requires { Seated desk seats.now × SlotRoom slots.now }
-    ensures { (result ≡ calls.log_says (m.desk_of desk seats.now [] slots.now) frame out.old)
+    ensures { (logged_said result ≡ calls.log_says (m.desk_of desk seats.now [] slots.now) frame out.old)
         × (out.new ≡ calls.log_bytes (m.desk_of desk seats.now [] slots.now) frame out.old) }
 {
     let count = count_of(frame);
-    let no = log_refusal(seats, desk, count, out.len());
-    if no != 0 {
-        return Logged { no, count: 0 };
-    }
+    log_refusal(seats, desk, count, out.len())?;
     put_line(slots, desk, count - 1, out);
-    Logged {
-        no: 0,
-        count: FIELD_LENGTH as u32 * (desk.seats + 2),
-    }
+    Ok(FIELD_LENGTH as u32 * (desk.seats + 2))
 }

@@ -11,17 +11,16 @@ use lib.IntN.{ℤ, pos, negsuc, neg_ℤ}
 use mir.Syntax.{w32}
 use mir.Val.{SFits}
 use borrow.Author.Tests.{ltb-true, leb-true}
-use Rattle.digits.specs.declared.Number.{Number}
-use Rattle.digits.specs.declared.Number.TheVariants.{Of, Not}
+use Rattle.std.specs.Prelude.{Option, Some, None}
 use Rattle.frame_info.proofs.Picked.{picked_if}
 use Rattle.digits.specs.Digits.{only_digits, value_of, number_of, decimal_of, word_of, pattern_of, and_then, signed_of, decimal_text, signed_text, word_text}
 use Rattle.digits.proofs.Writing.{length_digits, length_decimal, width_ten}
 
 -- ---- a number that is read fits 32 bits
 
-abbrev pub Small : Number → Type 0
-Small (Of n) = n < 2 ^ 32
-Small Not = 0 < 1
+abbrev pub Small : Option ℕ → Type 0
+Small (Some n) = n < 2 ^ 32
+Small None = 0 < 1
 
 last_true : (s t u : Bool) → (s && (t && u)) ≡ true → u ≡ true
 last_true true true u h = h
@@ -31,7 +30,7 @@ last_true false t u h = absurd (true≢false (sym h))
 number_small : (base : ℕ) (s : List ℕ) → Small (number_of base s)
 unfolding number_of
 number_small base s =
-    picked_if Small (ltb 0 (length s) && (only_digits base s && ltb (value_of base s) (2 ^ 32))) (Of (value_of base s)) Not
+    picked_if Small (ltb 0 (length s) && (only_digits base s && ltb (value_of base s) (2 ^ 32))) (Some (value_of base s)) None
     (λ h. ltb-true (value_of base s) (2 ^ 32) (last_true (ltb 0 (length s)) (only_digits base s) (ltb (value_of base s) (2 ^ 32)) h))
     (omega arith)
 
@@ -41,17 +40,17 @@ decimal_small s = number_small 10 s
 
 pub word_small : (s : List ℕ) → Small (word_of s)
 unfolding word_of
-word_small s = picked_if Small (leb (length s) 8) (number_of 16 s) Not (λ h. number_small 16 s) (omega arith)
+word_small s = picked_if Small (leb (length s) 8) (number_of 16 s) None (λ h. number_small 16 s) (omega arith)
 
 pattern_small : (z : ℤ) → Small (pattern_of z)
 unfolding pattern_of
-pattern_small (pos n) = picked_if Small (leb n 2147483647) (Of n) Not (λ h. omega (arith, leb-true n 2147483647 h)) (omega arith)
-pattern_small (negsuc n) = picked_if Small (leb n 2147483647 && true) (Of (2 ^ 32 - suc n)) Not (λ h. omega arith) (omega arith)
+pattern_small (pos n) = picked_if Small (leb n 2147483647) (Some n) None (λ h. omega (arith, leb-true n 2147483647 h)) (omega arith)
+pattern_small (negsuc n) = picked_if Small (leb n 2147483647 && true) (Some (2 ^ 32 - suc n)) None (λ h. omega arith) (omega arith)
 
-then_small : (m : Number) (f : ℕ → Number) → ((n : ℕ) → Small (f n)) → Small (and_then m f)
+then_small : (m : Option ℕ) (f : ℕ → Option ℕ) → ((n : ℕ) → Small (f n)) → Small (and_then m f)
 unfolding and_then
-then_small (Of n) f s = s n
-then_small Not f s = omega arith
+then_small (Some n) f s = s n
+then_small None f s = omega arith
 
 pub signed_small : (s : List ℕ) → Small (signed_of s)
 unfolding signed_of

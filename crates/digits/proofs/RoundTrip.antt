@@ -13,7 +13,7 @@ use mir.Syntax.{w32}
 use mir.Val.{SFits, to_z, of_z}
 use mir.Facts.{to_z-of_z}
 use borrow.Author.Tests.{lt-ltb, le-leb}
-use Rattle.digits.specs.declared.Number.TheVariants.{Of, Not}
+use Rattle.std.specs.Prelude.{Some}
 use Rattle.digits.specs.Digits.{digit_of, only_digits, value_after, value_of, number_of, decimal_of, word_of, pattern_of, and_then, signed_of, digit_byte, last_digits, width_of, decimal_text, signed_text, word_text, pair_text}
 use Rattle.frame_info.proofs.Split.{split_ltb, split_eqb}
 use Rattle.digits.proofs.Reading.{digit_low, digit_decimal, digit_lower, pattern_pos, number_none, number_some, number_other}
@@ -62,7 +62,7 @@ module _ (base : ℕ) (o : 0 < base) (m : base ≤ 16) where
       (omega (arith, rem_back n, mod-lt n o))
 
   -- the law over the base: enough digits, and at least one, are read back
-  pub number_back : (k n : ℕ) → 0 < k → n < base ^ k → n < 2 ^ 32 → number_of base (last_digits base k n) ≡ Of n
+  pub number_back : (k n : ℕ) → 0 < k → n < base ^ k → n < 2 ^ 32 → number_of base (last_digits base k n) ≡ Some n
   unfolding number_of
   number_back k n p h f = simp (length_digits base k n, lt-ltb 0 k p, all_digits k n, value_digits k n h, lt-ltb n (2 ^ 32) f)
 
@@ -76,37 +76,34 @@ width_enough (suc f) n h =
     rw (e, pow-suc 10 (width_of (n / 10))) (omega (arith, width_enough f (n / 10) (omega (arith, w.0)))))
     (split_ltb n 10)
 
-digits_back : (n : ℕ) → n < 2 ^ 32 → number_of 10 (decimal_text n) ≡ Of n
+digits_back : (n : ℕ) → n < 2 ^ 32 → number_of 10 (decimal_text n) ≡ Some n
 unfolding decimal_text
 digits_back n f = number_back 10 (omega arith) (omega arith) (width_of n) n (width_some n) (width_enough n n (omega arith)) f
 
-pub decimal_back : (n : ℕ) → n < 2 ^ 32 → decimal_of (decimal_text n) ≡ Of n
+pub decimal_back : (n : ℕ) → n < 2 ^ 32 → decimal_of (decimal_text n) ≡ Some n
 unfolding decimal_of
 decimal_back n f = digits_back n f
 
-pub word_back : (w : ℕ) → w < 2 ^ 32 → word_of (word_text w) ≡ Of w
+pub word_back : (w : ℕ) → w < 2 ^ 32 → word_of (word_text w) ≡ Some w
 unfolding word_of word_text
 word_back w f = simp (length_digits 16 8 w) (number_back 16 (omega arith) (omega arith) 8 w (omega arith) f f)
 
-pub pair_back : (b : ℕ) → b < 256 → number_of 16 (pair_text b) ≡ Of b
+pub pair_back : (b : ℕ) → b < 256 → number_of 16 (pair_text b) ≡ Some b
 unfolding pair_text
 pair_back b f = number_back 16 (omega arith) (omega arith) 2 b (omega arith) (omega arith) (omega arith)
 
-never : {n : ℕ} → Not ≡ Of n → ⊥
-never p = let z : ◌≡◌ {A = ℕ} 0 1 = cc in omega arith
-
 -- a run of digits begins with no `-`
-plain_back : (s : List ℕ) (n : ℕ) → number_of 10 s ≡ Of n → signed_of s ≡ pattern_of (pos n)
+plain_back : (s : List ℕ) (n : ℕ) → number_of 10 s ≡ Some n → signed_of s ≡ pattern_of (pos n)
 unfolding signed_of and_then
-plain_back [] n e = absurd (never (number_none 10 [] (omega arith) ∙ e))
+plain_back [] n e = let k = number_none 10 [] refl in absurd (cc)
 plain_back (b ∷ s) n e =
     ⊎_elim
-    (λ w. absurd (never (number_other 10 0 0 (b ∷ s) (omega arith) (omega (arith, ap digit_of w.0, digit_low 45 (omega arith))) ∙ number_some 10 (b ∷ s) (omega arith) ∙ e)))
+    (λ w. let k = number_some 10 (b ∷ s) (omega arith) ∙ number_other 10 0 0 (b ∷ s) (omega arith) (omega (arith, ap digit_of w.0, digit_low 45 (omega arith))) in absurd (cc))
     (λ w. simp w.1 (rw e))
     (split_eqb b 45)
 
 -- an i32 that is printed and read back is its pattern
-pub signed_back : (z : ℤ) → SFits w32 z → signed_of (signed_text z) ≡ Of (of_z w32 z)
+pub signed_back : (z : ℤ) → SFits w32 z → signed_of (signed_text z) ≡ Some (of_z w32 z)
 unfolding signed_of signed_text and_then pattern_of
 signed_back (pos n) f = plain_back (decimal_text n) n (digits_back n (omega (arith, f.sfits))) ∙ sym (pattern_pos n (omega (arith, f.sfits)))
 signed_back (negsuc n) f = rw (digits_back (suc n) (omega (arith, f.sfits))) (simp (le-leb n 2147483647 (omega (arith, f.sfits))))

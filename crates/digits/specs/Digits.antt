@@ -1,12 +1,10 @@
 -- Numbers as text: which bytes are digits, what a run of digits is worth, and how a number is written.
 use Rattle.std.specs.Prelude.{ℕ, zero, suc, ◌+◌, ◌-◌, ◌*◌, ◌/◌, ◌%◌, ◌^◌, ℤ, pos, negsuc, neg_ℤ}
-use Rattle.std.specs.Prelude.{Bool, true, ◌&&◌, List, [], ◌∷◌, ◌++◌, length, ltb, leb, eqb}
+use Rattle.std.specs.Prelude.{Bool, true, ◌&&◌, List, [], ◌∷◌, ◌++◌, length, ltb, leb, eqb, Option, Some, None}
 use Rattle.std.specs.Int.Signed.{le_z}
 use Rattle.std.specs.Int.{w32}
 use Rattle.std.proofs.Common.{of_z}
 use Rattle.frame_info.specs.Choice.{pick}
-use Rattle.digits.specs.declared.Number.{Number}
-use Rattle.digits.specs.declared.Number.TheVariants.{Of, Not}
 
 -- ---- reading
 
@@ -32,32 +30,32 @@ unfoldable pub value_of : ℕ → List ℕ → ℕ
 value_of base s = value_after base 0 s
 
 -- a number in the base: one or more digits, worth less than 2 ^ 32; leading zeros are allowed
-unfoldable pub number_of : ℕ → List ℕ → Number
+unfoldable pub number_of : ℕ → List ℕ → Option ℕ
 number_of base s =
     pick (ltb 0 (length s) && (only_digits base s && ltb (value_of base s) (2 ^ 32)))
-    (Of (value_of base s))
-    Not
+    (Some (value_of base s))
+    None
 
 -- a decimal u32, with no sign
-unfoldable pub decimal_of : List ℕ → Number
+unfoldable pub decimal_of : List ℕ → Option ℕ
 decimal_of s = number_of 10 s
 
 -- 1 to 8 hex digits, of either case
-unfoldable pub word_of : List ℕ → Number
-word_of s = pick (leb (length s) 8) (number_of 16 s) Not
+unfoldable pub word_of : List ℕ → Option ℕ
+word_of s = pick (leb (length s) 8) (number_of 16 s) None
 
 -- the 32-bit pattern of a number of either sign, where it is an i32
-unfoldable pub pattern_of : ℤ → Number
-pattern_of z = pick (le_z (negsuc 2147483647) z && le_z z (pos 2147483647)) (Of (of_z w32 z)) Not
+unfoldable pub pattern_of : ℤ → Option ℕ
+pattern_of z = pick (le_z (negsuc 2147483647) z && le_z z (pos 2147483647)) (Some (of_z w32 z)) None
 
 -- a number goes on, and what is not one stays so
-unfoldable pub and_then : Number → (ℕ → Number) → Number
-and_then (Of n) f = f n
-and_then Not f = Not
+unfoldable pub and_then : Option ℕ → (ℕ → Option ℕ) → Option ℕ
+and_then (Some n) f = f n
+and_then None f = None
 
 -- a decimal i32, as its pattern: digits, with `-` before them where it is negative
-unfoldable pub signed_of : List ℕ → Number
-signed_of [] = Not
+unfoldable pub signed_of : List ℕ → Option ℕ
+signed_of [] = None
 signed_of (b ∷ s) =
     pick (eqb b 45)
     (and_then (number_of 10 s) (λ n. pattern_of (neg_ℤ (pos n))))

@@ -1,163 +1,132 @@
 // Numbers as text: read from lent bytes, and written into lent bytes.
 #![tactic(auto)]
 
-ghost use Rattle.std.specs.Prelude.{◌≡◌, ◌+◌, ◌*◌, ◌≤◌, ◌<◌, length, set, pos, neg_ℤ, nat_abs};
+ghost use Rattle.std.specs.Prelude.{◌≡◌, ◌+◌, ◌*◌, ◌≤◌, ◌<◌, length, set, pos, neg_ℤ};
 ghost use Rattle.std.proofs.lemmas.List.Edits.{sets};
 ghost use Rattle.digits.specs.Digits.{digit_of, number_of, and_then, pattern_of, decimal_of, word_of, signed_of, digit_byte, last_digits, width_of, decimal_text, signed_text, word_text, pair_text};
 
-// What a field holds: a number of 32 bits, or anything else.
-#[derive(Clone, Copy)]
-pub enum Number {
-    Of(u32),
-    Not,
-}
-
 // A byte's worth as a digit, and 16 where it is none.
+#[tactic(auto, unfolding(crate::specs::Digits::digit_of))]
 fn digit_of(b: u8) -> u32
     ensures { result ≡ digit_of b }
 {
-    if b < 48 {
-        16
-    } else if b <= 57 {
-        (b - 48) as u32
-    } else if b < 65 {
-        16
-    } else if b <= 70 {
-        (b - 55) as u32
-    } else if b < 97 {
-        16
-    } else if b <= 102 {
-        (b - 87) as u32
-    } else {
-        16
+    match b {
+        b'0'..=b'9' => u32::from(b - b'0'),
+        b'a'..=b'f' => u32::from(b - b'a') + 10,
+        b'A'..=b'F' => u32::from(b - b'A') + 10,
+        _ => 16,
     }
 }
 
 // A number in a base. Once it is too large, more digits can't make it smaller.
-fn read_number(s: &[u8], base: u32) -> Number
+#[tactic(auto, using(crate::proofs::Reading::numbers))]
+fn read_number(s: &[u8], base: u32) -> Option<u32>
     requires { (1 ≤ base) × (base ≤ 16) }
     ensures { result ≡ number_of base s.now }
 {
-    if s.len() < 1 {
-        return Number::Not;
+    if s.is_empty() {
+        return None;
     }
     let mut value: u32 = 0;
-    let mut i: usize = 0;
-    while i < s.len() {
-        let d = digit_of(s[i]);
+    for b in s {
+        let d = digit_of(*b);
         if base <= d {
-            return Number::Not;
+            return None;
         }
-        let next = (value as u64) * (base as u64) + (d as u64);
-        if 4294967296 <= next {
-            return Number::Not;
-        }
-        value = next as u32;
-        i += 1;
+        value = value.checked_mul(base)?.checked_add(d)?;
     }
-    Number::Of(value)
+    Some(value)
 }
 
 // A decimal u32, with no sign.
-pub fn read_decimal(s: &[u8]) -> Number
+#[tactic(auto, unfolding(crate::specs::Digits::decimal_of))]
+pub fn read_decimal(s: &[u8]) -> Option<u32>
     ensures { result ≡ decimal_of s.now }
 {
     read_number(s, 10)
 }
 
 // 1 to 8 hex digits.
-pub fn read_word(s: &[u8]) -> Number
+#[tactic(auto, unfolding(crate::specs::Digits::word_of))]
+pub fn read_word(s: &[u8]) -> Option<u32>
     ensures { result ≡ word_of s.now }
 {
-    if s.len() <= 8 {
-        return read_number(s, 16);
+    if s.len() > 8 {
+        return None;
     }
-    Number::Not
+    read_number(s, 16)
 }
 
 // A decimal i32, as its two's complement pattern.
-pub fn read_signed(s: &[u8]) -> Number
+#[tactic(auto, using(crate::proofs::Reading::fields))]
+pub fn read_signed(s: &[u8]) -> Option<u32>
     ensures { result ≡ signed_of s.now }
 {
-    if s.len() == 0 {
-        return Number::Not;
-    }
-    if s[0] == 45 {
-        negative(read_number(&s[1..], 10))
-    } else {
-        positive(read_number(s, 10))
+    match s.strip_prefix(b"-") {
+        Some(digits) => negative(read_number(digits, 10)),
+        None => positive(read_number(s, 10)),
     }
 }
 
 // A number without a sign, where it is an i32.
-fn positive(n: Number) -> Number
+#[tactic(auto, unfolding(crate::specs::Digits::and_then, crate::specs::Digits::pattern_of))]
+fn positive(n: Option<u32>) -> Option<u32>
     ensures { result ≡ and_then n (λ v. pattern_of (pos v)) }
 {
-    let Number::Of(v) = n else {
-        return Number::Not;
-    };
-    if v <= 2147483647 {
-        Number::Of(v)
-    } else {
-        Number::Not
-    }
+    n.filter(|v| *v <= 2_147_483_647)
 }
 
 // A number after a `-`, as its pattern.
-fn negative(n: Number) -> Number
+#[tactic(auto, unfolding(crate::specs::Digits::and_then, crate::specs::Digits::pattern_of))]
+fn negative(n: Option<u32>) -> Option<u32>
     ensures { result ≡ and_then n (λ v. pattern_of (neg_ℤ (pos v))) }
 {
-    let Number::Of(v) = n else {
-        return Number::Not;
-    };
-    if v == 0 {
-        Number::Of(0)
-    } else if v <= 2147483648 {
-        Number::Of(4294967295 - (v - 1))
-    } else {
-        Number::Not
-    }
+    n.filter(|v| *v <= 2_147_483_648).map(u32::wrapping_neg)
 }
 
+#[tactic(auto, unfolding(crate::specs::Digits::digit_byte))]
 fn digit_byte(d: u32) -> u8
     requires { d < 16 }
     ensures { result ≡ digit_byte d }
 {
-    if d < 10 {
-        (d + 48) as u8
-    } else {
-        (d + 87) as u8
-    }
+    let d = d as u8;
+    if d < 10 { b'0' + d } else { b'a' + (d - 10) }
 }
 
 // The last `count` digits of n, from the last one back.
+// Kept: the loop is over places. Tried `out[at..at + count].iter_mut().rev()`: once its borrow is over,
+// a proof knows how many bytes there are, and none of them.
+#[tactic(auto, using(crate::proofs::Writing::written))]
 fn put_digits(out: &mut [u8], at: usize, n: u32, base: u32, count: usize)
     requires { (at + count ≤ length out.old) × (1 ≤ base) × (base ≤ 16) }
     ensures { out.new ≡ sets out.old at (last_digits base count n) }
 {
-    let mut left = count;
     let mut rest = n;
-    while 0 < left {
-        left -= 1;
-        let spot = at + left;
-        out[spot] = digit_byte(rest % base);
-        rest = rest / base;
+    for left in (0..count).rev() {
+        out[at + left] = digit_byte(rest % base);
+        rest /= base;
     }
 }
 
 // How many decimal digits n has.
+#[tactic(auto, using(crate::proofs::Writing::widths))]
 fn width_of(n: u32) -> usize
     ensures { result ≡ width_of n }
 {
     let mut width: usize = 1;
     let mut rest = n;
-    while 10 <= rest {
-        rest = rest / 10;
+    while rest >= 10 {
+        rest /= 10;
         width += 1;
     }
     width
 }
 
+// What is written stands at a place of lent bytes, and the answer is the place after it.
+// Kept: the bytes and the place are two arguments, and no struct that writes. The promises are on the
+// whole of the lent list, as the desk's log line and the cue sheets' answers need it; a struct would
+// have to lend it and give it back at each call, which is no plainer.
+#[tactic(auto, using(crate::proofs::Writing::decimals), unfolding(crate::specs::Digits::decimal_text))]
 pub fn put_decimal(out: &mut [u8], at: usize, n: u32) -> usize
     requires { at + 10 ≤ length out.old }
     ensures { (result ≡ at + length (decimal_text n)) × (out.new ≡ sets out.old at (decimal_text n)) }
@@ -167,30 +136,21 @@ pub fn put_decimal(out: &mut [u8], at: usize, n: u32) -> usize
     at + count
 }
 
-// A number without its sign.
-fn size_of(z: i32) -> u32
-    ensures { result ≡ nat_abs z }
-{
-    if z < 0 {
-        ((-1 - z) as u32) + 1
-    } else {
-        z as u32
-    }
-}
-
+#[tactic(auto, using(crate::proofs::Writing::signs))]
 pub fn put_signed(out: &mut [u8], at: usize, z: i32) -> usize
     requires { at + 11 ≤ length out.old }
     ensures { (result ≡ at + length (signed_text z)) × (out.new ≡ sets out.old at (signed_text z)) }
 {
-    let size = size_of(z);
+    let size = z.unsigned_abs();
     if z < 0 {
-        let next = put_byte(out, at, 45);
+        let next = put_byte(out, at, b'-');
         put_decimal(out, next, size)
     } else {
         put_decimal(out, at, size)
     }
 }
 
+#[tactic(auto, unfolding(crate::specs::Digits::word_text))]
 pub fn put_word(out: &mut [u8], at: usize, w: u32) -> usize
     requires { at + 8 ≤ length out.old }
     ensures { (result ≡ at + 8) × (out.new ≡ sets out.old at (word_text w)) }
@@ -200,11 +160,12 @@ pub fn put_word(out: &mut [u8], at: usize, w: u32) -> usize
 }
 
 // A byte as two digits.
+#[tactic(auto, unfolding(crate::specs::Digits::pair_text))]
 pub fn put_pair(out: &mut [u8], at: usize, b: u8) -> usize
     requires { at + 2 ≤ length out.old }
     ensures { (result ≡ at + 2) × (out.new ≡ sets out.old at (pair_text b)) }
 {
-    put_digits(out, at, b as u32, 16, 2);
+    put_digits(out, at, u32::from(b), 16, 2);
     at + 2
 }
 
@@ -217,15 +178,12 @@ pub fn put_byte(out: &mut [u8], at: usize, b: u8) -> usize
 }
 
 // Bytes as they stand.
+#[tactic(auto, using(crate::proofs::Writing::text_put))]
 pub fn put_text(out: &mut [u8], at: usize, text: &[u8]) -> usize
     requires { at + length text.now ≤ length out.old }
     ensures { (result ≡ at + length text.now) × (out.new ≡ sets out.old at text.now) }
 {
-    let mut i: usize = 0;
-    while i < text.len() {
-        let spot = at + i;
-        out[spot] = text[i];
-        i += 1;
-    }
-    at + i
+    let end = at + text.len();
+    out[at..end].copy_from_slice(text);
+    end
 }

@@ -1,23 +1,25 @@
 use Rattle.desk.proofs.Served.{advancing, advance_done, advance-report, advance_desk, advance-served, advance-statuses}
 use borrow.Author.Rules.{rules}
+use mathlib.Core.Path.{◌≡◌, refl}
+use Rattle.std.proofs.lemmas.Result.{err_from_is_err_and}
 use Rattle.desk.proofs.advance_into.Goals as goal
 
-pub returns-then-no-ne0 : goal.returns-then-no-ne0
-returns-then-no-ne0 c = search (rules, advancing)
-
 pub serve_frame-next-requires : goal.serve_frame-next-requires
-serve_frame-next-requires c = search (rules, advancing)
+serve_frame-next-requires c = search (rules, advancing, c.in_ok-advance_refusal.ensures)
 
 pub returns : goal.returns
 returns c =
-    let n = c.advance_refusal-no.ensures in
-    let z = c.if-no-ne0.false in
+    let n = c.in_ok-advance_refusal.ensures in
+    let z : 0 ≡ 0 = refl in
     let h = c.requires.0 in
-    let e = c.settle-s.ensures.1 in
+    let e = c.settle-settled.ensures.1 in
     let f = c.serve_frame-next.ensures in (
       advance_done _ _ _ _ _ n z,
-      advance-report _ _ _ _ _ n z _ c.settle-s.ensures.0,
+      advance-report _ _ _ _ _ n z _ c.settle-settled.ensures.0,
       advance_desk _ _ _ _ _ n z h _ _ _ e _ _ _ f.0,
       advance-served _ _ _ _ _ n z h _ _ _ e _ _ f.1,
       advance-statuses _ _ _ _ _ n z h _ _ _ e _ _ f.2,
     )
+
+pub returns-in_err-advance_refusal : goal.returns-in_err-advance_refusal
+returns-in_err-advance_refusal c = let p = err_from_is_err_and c.from_residual.result c.from_residual.ensures.1 in rw (p.1, p.2) (search (rules, advancing))

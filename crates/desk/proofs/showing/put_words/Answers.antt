@@ -2,8 +2,5 @@ use borrow.Author.Rules.{rules}
 use Rattle.desk.proofs.Loops.{writing}
 use Rattle.desk.proofs.showing.put_words.Goals as goal
 
-pub loop-i-init : goal.loop-i-init
-loop-i-init c = search (rules, writing)
-
-pub loop-i-preserved : goal.loop-i-preserved
-loop-i-preserved c = search (rules, writing)
+pub returns : goal.returns
+returns c = search (rules, writing)
