@@ -1,5 +1,5 @@
 // The calls of the layer in force, by value: each makes its call and tells its answer. One that is refused leaves the layer as it was.
-#![tactic(auto)]
+#![tactic(auto, using(crate::proofs::Keeping::keeping))]
 
 mod fields;
 mod tell;

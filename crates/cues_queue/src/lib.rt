@@ -3,7 +3,7 @@
 
 ghost use Rattle.std.specs.Prelude.{◌≡◌, ◌+◌, ◌≤◌, length};
 ghost use Rattle.input_queue_value.specs.Value.{Whole};
-ghost use Rattle.cues_queue.specs.Stub.{queue_number};
+ghost use Rattle.cues_queue.specs.Stub.{number_of_queue_call};
 ghost use Rattle.cues_text.specs.Text.{Puts};
 ghost use Rattle.cues_queue.specs.Queue as tells;
 
@@ -136,8 +136,8 @@ pub fn make(
     at: usize,
 ) -> Told<InputQueue>
     requires { (2048 ≤ length args.now) × (at + 64 ≤ length out.old) × Whole queue }
-    ensures { (result.part ≡ tells.queue_after (queue_number call) args.now queue)
-        × Puts (tells.text_after (queue_number call) args.now queue) 63 at out.old out.new result.at }
+    ensures { (result.part ≡ tells.queue_after (number_of_queue_call call) args.now queue)
+        × Puts (tells.text_after (number_of_queue_call call) args.now queue) 63 at out.old out.new result.at }
 {
     match call {
         QueueCall::Open => open(args, out, at),

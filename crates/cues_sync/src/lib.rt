@@ -2,7 +2,7 @@
 #![tactic(auto)]
 
 ghost use Rattle.std.specs.Prelude.{◌+◌, ◌≤◌, ◌≡◌, length};
-ghost use Rattle.sheet.specs.Calls.{sync_number};
+ghost use Rattle.sheet.specs.Said.{number_of_sync_call};
 ghost use Rattle.time_sync.specs.Windows.{fresh};
 ghost use Rattle.cues_sync.specs.Sync as windows;
 
@@ -85,7 +85,7 @@ pub fn make(
     at: usize,
 ) -> Told<TimeSync>
     requires { (2048 ≤ length args.now) × (at + 64 ≤ length out.old) }
-    ensures { (result.part ≡ windows.after (sync_number call) args.now sync) × (result.at ≤ at + 63) }
+    ensures { (result.part ≡ windows.after (number_of_sync_call call) args.now sync) × (result.at ≤ at + 63) }
 {
     let looked = match call {
         SyncCall::Open => return open(out, at),

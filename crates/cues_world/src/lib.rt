@@ -4,7 +4,7 @@
 
 ghost use Rattle.std.specs.Prelude.{◌≡◌, ◌+◌, ◌≤◌, ◌<◌, length, set};
 ghost use Rattle.sheet.specs.Calls as calls;
-ghost use Rattle.sheet.specs.Calls.{sync_number, queue_number};
+ghost use Rattle.sheet.specs.Said.{number_of_queue_call, number_of_sync_call};
 ghost use Rattle.sheet.specs.Reading.{reading_of};
 ghost use Rattle.cues_queue.specs.Queue.{queue_after};
 ghost use Rattle.cues_sync.specs.Sync.{after};
@@ -54,7 +54,7 @@ fn end_answer(out: &mut [u8], at: usize) -> usize
 fn queue_line(call: QueueCall, args: &[u64], world: World, out: &mut [u8]) -> World
     requires { (2048 ≤ length args.now) × Whole world × (world.filled + 16385 ≤ length out.old) }
     ensures { Whole result × (result.filled ≤ world.filled + 16384)
-        × (result ≡ force.with_queue world (queue_after (queue_number call) args.now world.queue) result.filled) }
+        × (result ≡ force.with_queue world (queue_after (number_of_queue_call call) args.now world.queue) result.filled) }
 {
     let told = cues_queue::make(call, args, world.queue, out, world.filled);
     World {
@@ -80,7 +80,7 @@ fn layer_line(call: LayerCall, count: u32, args: &[u64], world: World, out: &mut
 fn sync_line(call: SyncCall, args: &[u64], world: World, out: &mut [u8]) -> World
     requires { (2048 ≤ length args.now) × Whole world × (world.filled + 16385 ≤ length out.old) }
     ensures { Whole result × (result.filled ≤ world.filled + 16384)
-        × (result ≡ force.with_sync world (after (sync_number call) args.now world.sync) result.filled) }
+        × (result ≡ force.with_sync world (after (number_of_sync_call call) args.now world.sync) result.filled) }
 {
     let told = cues_sync::make(call, args, world.sync, out, world.filled);
     World {
