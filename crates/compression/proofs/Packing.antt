@@ -2,15 +2,13 @@
 use Prim.Native.Nat.{ℕ, ◌+◌, ◌-◌, ◌*◌, ◌<◌, ◌≤◌, min}
 use native.Mathlib.Omega.{arith}
 use native.Mathlib.Numerals.{add-one}
-use mathlib.Core.Path.{◌≡◌, refl, ap, sym, ◌∙◌}
-use mathlib.Core.List.{List, [], ◌∷◌, ◌++◌}
-use lib.ListN.{length, take, drop, get_or, length-append, length-drop, length-take}
-use lib.Seq.{paste, paste-zero, drop-cons, drop-drop, length-paste}
-use borrow.Author.Tests.{ne_eqb}
+use mathlib.Core.Path.{◌≡◌, refl, ap, ap₂, sym, ◌∙◌}
+use mathlib.Core.List.{List, [], ◌∷◌, ◌++◌, append-nil}
+use lib.ListN.{length, take, drop, get_or, length-append, length-drop, length-take, drop_of_length-le}
+use lib.Seq.{drop-cons, take_all, length-take-le}
 use Rattle.compression.specs.Layout.{record_of, packed, split, total}
 use Rattle.compression.specs.Promise.{over}
-use Rattle.compression.specs.Inside.{base_at}
-use Rattle.compression.proofs.Lists.{grown, grown_rest, paste_over}
+use Rattle.compression.proofs.Lists.{front, front_all, front_grown, front_rest}
 use Rattle.compression.proofs.Masking.{length_masked}
 use Rattle.compression.proofs.Sums.{total_at, total_end}
 
@@ -34,79 +32,72 @@ length_packed base (n ∷ ls) bytes h =
     )
 
 -- the next input
-pub split_at : (ls bytes : List ℕ) (k at : ℕ) → k < length ls
-    → split (drop k ls) (drop at bytes) ≡ take (get_or ls k 0) (drop at bytes) ∷ split (drop (k + 1) ls) (drop (at + get_or ls k 0) bytes)
+split_next : (ls bytes : List ℕ) (k : ℕ) → k < length ls
+    → split (drop k ls) bytes ≡ take (get_or ls k 0) bytes ∷ split (drop (k + 1) ls) (drop (get_or ls k 0) bytes)
 unfolding split
-split_at ls bytes k at h = rw (drop-cons ls k 0 h, add-one, drop-drop (get_or ls k 0) at bytes)
+split_next ls bytes k h = rw (drop-cons ls k 0 h, add-one)
 
--- the base in force after the first input
-pub base_after : (reference earlier : List ℕ) (k from upto : ℕ) → base_at reference earlier (k + 1) from upto ≡ take (upto - from) (drop from earlier)
-base_after reference earlier k from upto = simp (ne_eqb (k + 1) 0 (λ e. omega arith))
+-- a part that reaches to the end of a list, written
+written_part : (out x part : List ℕ) (at : ℕ) → part ≡ over x (take (length out - at) (drop at out))
+    → take at out ++ (part ++ drop (length out - at) (drop at out)) ≡ take at out ++ (x ++ drop (length x) (drop at out))
+written_part out x part at e =
+    let n : length (drop at out) ≡ length out - at = length-drop at out in
+    ap₂ (λ (l m : List ℕ). take at out ++ (l ++ m))
+    (e ∙ ap (over x) (take_all (length out - at) (drop at out) (omega arith)))
+    (drop_of_length-le (drop at out) {i = length out - at} (omega arith))
+    ∙ ap (λ (l : List ℕ). take at out ++ l) (append-nil (over x (drop at out)))
 
-module _ (reference pending lengths d : List ℕ) where
-  abbrev pub whole_packet : List ℕ
-  whole_packet = packed reference (split lengths pending)
+-- the packet of what is pending
+abbrev pub whole_packet : List ℕ → List ℕ → List ℕ → List ℕ
+whole_packet reference pending lengths = packed reference (split lengths pending)
 
-  -- k inputs have been packed; the next starts at `at`, the one before at `from`
-  pub record Packs (from at k : ℕ) (out : List ℕ) : Type 0 where
-    pub ordered : from ≤ at
-    pub few : k ≤ length lengths
-    pub sum : at + total (drop k lengths) ≡ length pending
-    pub laid : out ≡ paste d 0 whole_packet (at + 2 * k)
-    pub rest : drop (at + 2 * k) whole_packet ≡ packed (base_at reference pending k from at) (split (drop k lengths) (drop at pending))
-    pub long : length out ≡ length d
+-- k inputs have been packed, and `rest` are the bytes of the others; the next record starts at `at`
+pub record Packs (reference pending lengths d base rest : List ℕ) (at k : ℕ) (out : List ℕ) : Type 0 where
+  pub sum : total (drop k lengths) ≡ length rest
+  pub size : at + length rest + 2 * (length lengths - k) ≡ length pending + 2 * length lengths
+  pub laid : out ≡ front d (whole_packet reference pending lengths) at
+  pub more : drop at (whole_packet reference pending lengths) ≡ packed base (split (drop k lengths) rest)
 
-  module _ (sums : total lengths ≡ length pending) (room : length pending + 2 * length lengths ≤ length d) where
-    pub packs_none : Packs 0 0 0 d
-    packs_none =
-        record { ordered = omega arith; few = omega arith; sum = omega arith; laid = paste-zero d 0 whole_packet; rest = refl; long = refl }
+whole_long : (reference pending lengths : List ℕ) → total lengths ≡ length pending
+    → length (whole_packet reference pending lengths) ≡ length pending + 2 * length lengths
+whole_long reference pending lengths sums = omega (arith, length_packed reference lengths pending (omega arith))
 
-    module _ (from at k : ℕ) (out : List ℕ) (s : Packs from at k out) where
-      pub packs_fits : k < length lengths → at + get_or lengths k 0 ≤ length pending
-      packs_fits h = omega (arith, total_at lengths k h, s.sum)
+module _ {reference pending lengths d base rest : List ℕ} {at k : ℕ} {out : List ℕ} (sums : total lengths ≡ length pending)
+    (room : length pending + 2 * length lengths ≤ length d) (s : Packs reference pending lengths d base rest at k out) where
+  pub packs_fits : k < length lengths → get_or lengths k 0 ≤ length rest
+  packs_fits h = omega (arith, total_at lengths k h, s.sum)
 
-      pub packs_one : (h : k < length lengths) (base out' : List ℕ) → base ≡ base_at reference pending k from at
-          → out' ≡ paste out (at + 2 * k) (record_of base (take (at + get_or lengths k 0 - at) (drop at pending)))
-          (2 + length (take (at + get_or lengths k 0 - at) (drop at pending)))
-          → Packs at (at + get_or lengths k 0) (k + 1) out'
-      unfolding packed
-      packs_one h base out' b e =
-          let n : ℕ = get_or lengths k 0 in
-          let fits : at + n ≤ length pending = packs_fits h in
-          let same : at + n - at ≡ n = omega arith in
-          let input : List ℕ = take (at + n - at) (drop at pending) in
-          let x : List ℕ = record_of base input in
-          let more : List (List ℕ) = split (drop (k + 1) lengths) (drop (at + n) pending) in
-          let y : List ℕ = packed input more in
-          let size : length input ≡ n =
-          omega (arith, length-take (at + n - at) (drop at pending), length-drop at pending) in
-          let next : drop (at + 2 * k) whole_packet ≡ x ++ y =
-          s.rest ∙ ap (packed (base_at reference pending k from at)) (split_at lengths pending k at h)
-          ∙ ap (λ (l : List ℕ). record_of l (take n (drop at pending)) ++ packed (take n (drop at pending)) more) (sym b)
-          ∙ ap (λ (m : ℕ). record_of base (take m (drop at pending)) ++ packed (take m (drop at pending)) more) (sym same) in
-          let long : length x ≡ 2 + length input = length_record base input in
-          let all : length whole_packet ≡ total lengths + 2 * length lengths = length_packed reference lengths pending (omega arith) in
-          let place : at + 2 * k + length x ≡ at + n + 2 * (k + 1) = omega arith in
-          let laid' : out' ≡ paste d 0 whole_packet (at + n + 2 * (k + 1)) =
-          e ∙ ap (λ (l : List ℕ). paste l (at + 2 * k) x (2 + length input)) s.laid
-          ∙ ap (paste (paste d 0 whole_packet (at + 2 * k)) (at + 2 * k) x) (sym long)
-          ∙ grown d whole_packet x y (at + 2 * k) (omega (arith, s.few)) (omega (arith, s.few)) next
-          ∙ ap (paste d 0 whole_packet) place in
-          record {
-            ordered = omega arith;
-            few = omega arith;
-            sum = omega (arith, total_at lengths k h, s.sum);
-            laid = laid';
-            rest =
-                ap (λ (m : ℕ). drop m whole_packet) (sym place) ∙ grown_rest whole_packet x y (at + 2 * k) next
-                ∙ ap (λ (l : List ℕ). packed l more)
-                (sym (base_after reference pending k at (at + n)));
-            long = ap length laid' ∙ length-paste d 0 whole_packet (at + n + 2 * (k + 1)) (omega arith) (omega arith);
-          }
+  pub packs_more : (h : k < length lengths) {input later part : List ℕ} → input ≡ take (get_or lengths k 0) rest → later ≡ drop (get_or lengths k 0) rest
+      → part ≡ over (record_of base input) (take (length out - at) (drop at out))
+      → Packs reference pending lengths d input later (at + (2 + length input)) (k + 1) (take at out ++ (part ++ drop (length out - at) (drop at out)))
+  unfolding packed
+  packs_more h {input} {later} {part} i l e =
+      let w : List ℕ = whole_packet reference pending lengths in
+      let all : length w ≡ length pending + 2 * length lengths = whole_long reference pending lengths sums in
+      let n : ℕ = get_or lengths k 0 in
+      let x : List ℕ = record_of base input in
+      let y : List ℕ = packed input (split (drop (k + 1) lengths) later) in
+      let next : drop at w ≡ x ++ y =
+      s.more ∙ ap (packed base) (split_next lengths rest k h)
+      ∙ ap₂ (λ (a b : List ℕ). packed base (a ∷ split (drop (k + 1) lengths) b)) (sym i) (sym l) in
+      let size : length input ≡ n = ap length i ∙ length-take-le n rest (packs_fits h) in
+      let left : length later ≡ length rest - n = ap length l ∙ length-drop n rest in
+      let long : at + length x ≡ at + (2 + length input) = omega (arith, length_record base input) in
+      record {
+        sum = omega (arith, total_at lengths k h, s.sum);
+        size = omega (arith, s.size, packs_fits h);
+        laid =
+            written_part out x part at e
+            ∙ ap (λ (o : List ℕ). take at o ++ (x ++ drop (length x) (drop at o))) s.laid
+            ∙ front_grown d w x y at (omega (arith, s.size)) next
+            ∙ ap (front d w) long;
+        more = ap (λ (m : ℕ). drop m w) (sym long) ∙ front_rest w x y at next;
+      }
 
-      pub packs_count : length lengths ≤ k → at + 2 * k ≡ length whole_packet
-      packs_count h =
-          omega (arith, total_end lengths k h, s.sum, s.few, length_packed reference lengths pending (omega arith))
+  module _ (h : length lengths ≤ k) where
+    pub packs_count : at ≡ length (whole_packet reference pending lengths)
+    packs_count = omega (arith, total_end lengths k h, s.sum, s.size, whole_long reference pending lengths sums)
 
-      pub packs_all : length lengths ≤ k → out ≡ over whole_packet d
-      packs_all h = s.laid ∙ ap (paste d 0 whole_packet) (packs_count h) ∙ paste_over d whole_packet
+    pub packs_all : out ≡ over (whole_packet reference pending lengths) d
+    packs_all =
+        s.laid ∙ ap (front d (whole_packet reference pending lengths)) packs_count ∙ front_all d (whole_packet reference pending lengths)

@@ -1,58 +1,54 @@
 -- What stands at a place of a packet, and how the records go on from there. Assumes nothing.
 use Prim.Native.Nat.{ℕ, zero, suc, ◌+◌, ◌-◌, ◌*◌, ◌<◌, ◌≤◌}
 use native.Mathlib.Omega.{arith}
-use native.Mathlib.Numerals.{add-one}
 use native.Mathlib.Nat.{zero-add, add-zero}
 use mathlib.Core.Path.{◌≡◌, refl, ap, sym, ◌∙◌}
 use mathlib.Core.List.{List, [], ◌∷◌, ◌++◌}
 use Prim.{absurd}
 use mathlib.Core.Logic.{⊎_elim}
-use lib.ListN.{length, take, drop, get_or, length-drop, length-take, length-append, drop_of_length-le}
-use lib.Seq.{drop-cons, drop-drop}
+use lib.ListN.{length, take, drop, get_or, length-drop, length-take, length-append}
+use lib.Seq.{drop-drop}
 use borrow.Author.Tests.{le-leb, lt-leb}
 use Rattle.frame_info.proofs.Split.{split_leb}
 use Rattle.compression.specs.Layout.{size_of, Reading, whole, half, short, after, records_in, records, joined}
-use Rattle.frame_info.specs.Refusal.{done, half_length, fewer_bytes}
+use Rattle.frame_info.specs.Refusal.{done, half_length, fewer_bytes, number_of}
+use Rattle.frame_info.specs.declared.refusal.Refusal.{Refusal}
+use Rattle.frame_info.specs.declared.refusal.Refusal.TheVariants.{HalfLength, FewerBytes}
+use Rattle.std.specs.Prelude.{Some, None, Ok, Err}
 use Rattle.compression.specs.Promise.{first_of, unpack_refused}
 use Rattle.compression.specs.Inside.{counted}
-use Rattle.compression.specs.declared.Unpacked.{Unpacked}
+use Rattle.compression.specs.Answer.{Unpacked}
+use Rattle.compression.specs.Said.{unpacked_said, length_of}
+use Rattle.compression.specs.declared.Unpacked as declared_unpacked
+use Rattle.compression.specs.declared.Reader.{Reader}
+use Rattle.compression.specs.declared.Record.{Record}
 use Rattle.compression.specs.declared.Record.TheVariants.{End, Half, Short, Whole}
 
--- the length that stands at a place
-abbrev pub size_at : List ℕ → ℕ → ℕ
-size_at p at = size_of (get_or p at 0) (get_or p (at + 1) 0)
-
-pub drop_two : (p : List ℕ) (at : ℕ) → at + 1 < length p → drop at p ≡ get_or p at 0 ∷ get_or p (at + 1) 0 ∷ drop (at + 2) p
-drop_two p at h =
-    let e : suc (at + 1) ≡ at + 2 = omega arith in
-    drop-cons p at 0 (omega arith)
-    ∙ ap (λ (n : ℕ). get_or p at 0 ∷ drop n p) (sym (add-one at))
-    ∙ ap (λ (l : List ℕ). get_or p at 0 ∷ l) (drop-cons p (at + 1) 0 h)
-    ∙ ap (λ (n : ℕ). get_or p at 0 ∷ get_or p (at + 1) 0 ∷ drop n p) e
-
-drop_last : (p : List ℕ) (at : ℕ) → length p ≡ at + 1 → drop at p ≡ get_or p at 0 ∷ []
-drop_last p at h = drop-cons p at 0 (omega arith) ∙ ap (λ (l : List ℕ). get_or p at 0 ∷ l) (drop_of_length-le p {i = suc at} (omega arith))
-
--- the four answers of a look at a place
-pub first_end : (p : List ℕ) (at : ℕ) → length p ≤ at → End ≡ first_of (drop at p)
+-- the four answers of a look at what is left of a packet
+pub first_end : (q : List ℕ) → length q < 1 → End ≡ first_of q
 unfolding first_of
-first_end p at h = rw (drop_of_length-le p h)
+first_end [] h = refl
+first_end (x ∷ q) h = absurd (omega arith)
 
-pub first_half : (p : List ℕ) (at : ℕ) → at < length p → length p - at ≡ 1 → Half ≡ first_of (drop at p)
+pub first_half : (q : List ℕ) → 1 ≤ length q → length q < 2 → Half ≡ first_of q
 unfolding first_of
-first_half p at h k = rw (drop_last p at (omega arith))
+first_half [] h k = absurd (omega arith)
+first_half (x ∷ []) h k = refl
+first_half (x ∷ y ∷ q) h k = absurd (omega arith)
 
-pub first_short : (p : List ℕ) (at n : ℕ) → at + 1 < length p → n ≡ size_at p at → length p - at - 2 < n
-    → Short ≡ first_of (drop at p)
+pub first_short : (q : List ℕ) (n : ℕ) → 2 ≤ length q → n ≡ get_or q 0 0 + get_or q 1 0 * 256 → length (take (length q - 2) (drop 2 q)) < n → Short ≡ first_of q
 unfolding first_of
-first_short p at n h e k =
-    rw (drop_two p at h, lt-leb (size_at p at) (length (drop (at + 2) p)) (omega (arith, length-drop (at + 2) p)))
+first_short [] n h e k = absurd (omega arith)
+first_short (x ∷ []) n h e k = absurd (omega arith)
+first_short (x ∷ y ∷ q) n h e k = rw (lt-leb (size_of x y) (length q) (omega (arith, length-take (suc (suc (length q)) - 2) q)))
 
-pub first_whole : (p : List ℕ) (at n : ℕ) → at + 1 < length p → n ≡ size_at p at → n ≤ length p - at - 2
-    → Whole n ≡ first_of (drop at p)
+pub first_whole : (q : List ℕ) (n : ℕ) → 2 ≤ length q → n ≡ get_or q 0 0 + get_or q 1 0 * 256 → n ≤ length (take (length q - 2) (drop 2 q)) → Whole n ≡ first_of q
 unfolding first_of
-first_whole p at n h e k =
-    rw (drop_two p at h, le-leb (size_at p at) (length (drop (at + 2) p)) (omega (arith, length-drop (at + 2) p))) (ap Whole e)
+first_whole [] n h e k = absurd (omega arith)
+first_whole (x ∷ []) n h e k = absurd (omega arith)
+first_whole (x ∷ y ∷ q) n h e k =
+    let s : n ≡ size_of x y = omega arith in
+    rw (le-leb (size_of x y) (length q) (omega (arith, length-take (suc (suc (length q)) - 2) q))) (ap Whole s)
 
 pub ruleset firsts = (first_end, first_half, first_short, first_whole)
 
@@ -155,48 +151,69 @@ counting_one k b body (whole bodies) =
     let f : k + suc (length bodies) ≡ k + 1 + length bodies = omega arith in
     rw (e, f)
 
--- the scan's loop: k records have been passed, and the rest of the count is what stands from here on
-pub record Scanned (p : List ℕ) (at k : ℕ) : Type 0 where
-  pub within : at ≤ length p
-  pub twice : 2 * k ≤ at
-  pub rest : counted (records p) ≡ counting k (at - 2 * k) (records (drop at p))
+-- what each length says of the record that has it
+sized_whole : (f : Record) (n : ℕ) → Ok (Some n) ≡ length_of f → f ≡ Whole n
+sized_whole End n l = cc
+sized_whole Half n l = cc
+sized_whole Short n l = cc
+sized_whole (Whole m) n l = cc
 
-pub scanned_none : (p : List ℕ) → Scanned p 0 0
-scanned_none p = record { within = omega arith; twice = omega arith; rest = counting_none (records p) }
+sized_end : (f : Record) → Ok None ≡ length_of f → f ≡ End
+sized_end End l = refl
+sized_end Half l = cc
+sized_end Short l = cc
+sized_end (Whole m) l = cc
 
--- a whole record further
-pub scanned_fits : {p : List ℕ} {at k : ℕ} (n : ℕ) → Scanned p at k → Whole n ≡ first_of (drop at p) → at + (2 + n) ≤ length p
-scanned_fits {p} {at} n s e =
-    let f = (reads_whole (drop at p) n (sym e)).fits in omega (arith, length-drop at p, s.within)
-
-pub scanned_one : {p : List ℕ} {at k : ℕ} (n : ℕ) → Scanned p at k → Whole n ≡ first_of (drop at p) → Scanned p (at + (2 + n)) (k + 1)
-scanned_one {p} {at} {k} n s e =
-    let f = reads_whole (drop at p) n (sym e) in
-    let long : length (take n (drop 2 (drop at p))) ≡ n =
-    omega (arith, length-take n (drop 2 (drop at p)), length-drop 2 (drop at p), f.fits) in
-    let b : at + (2 + n) - 2 * (k + 1) ≡ at - 2 * k + n = omega (arith, s.twice) in
-    record {
-      within = scanned_fits n s e;
-      twice = omega (arith, s.twice);
-      rest =
-          s.rest ∙ ap (counting k (at - 2 * k)) f.goes
-          ∙ counting_one k (at - 2 * k) (take n (drop 2 (drop at p))) (records (drop (2 + n) (drop at p)))
-          ∙ rw (long, b, drop-drop (2 + n) at p);
-    }
-
--- its ends
-pub scanned_end : {p : List ℕ} {at k : ℕ} → Scanned p at k → End ≡ first_of (drop at p)
-    → record { no = done; bytes = at - 2 * k; lengths = k } ≡ counted (records p)
-unfolding counting joined
-scanned_end {p} {at} {k} s e =
-    rw (s.rest, reads_end (drop at p) (sym e), add-zero (at - 2 * k), add-zero k)
-
-pub scanned_half : {p : List ℕ} {at k : ℕ} → Scanned p at k → Half ≡ first_of (drop at p)
-    → unpack_refused half_length ≡ counted (records p)
+broken_by : (k b : ℕ) (q : List ℕ) (f : Record) → first_of q ≡ f → (w : Refusal) → Err w ≡ length_of f → unpack_refused (number_of w) ≡ counting k b (records q)
 unfolding counting
-scanned_half {p} {at} {k} s e = rw (s.rest, reads_half (drop at p) (sym e))
+broken_by k b q End e w l = cc
+broken_by k b q Half e w l = let h : w ≡ HalfLength = cc in rw (h, reads_half q e)
+broken_by k b q Short e w l = let h : w ≡ FewerBytes = cc in rw (h, reads_short q e)
+broken_by k b q (Whole n) e w l = cc
 
-pub scanned_short : {p : List ℕ} {at k : ℕ} → Scanned p at k → Short ≡ first_of (drop at p)
-    → unpack_refused fewer_bytes ≡ counted (records p)
-unfolding counting
-scanned_short {p} {at} {k} s e = rw (s.rest, reads_short (drop at p) (sym e))
+-- the scan's loop: what was seen before the reader's place, and the rest of the count is what stands from there on
+pub record Scanned (p : List ℕ) (r : Reader) (seen : declared_unpacked.Unpacked) : Type 0 where
+  pub held : r.packet.now ≡ p
+  pub within : r.at ≤ length p
+  pub place : r.at ≡ seen.bytes + 2 * seen.lengths
+  pub rest : counted (records p) ≡ counting seen.lengths seen.bytes (records (drop r.at p))
+
+pub scanned_none : {p : List ℕ} (r : Reader) → r.packet.now ≡ p → r.at ≡ 0 → Scanned p r (record { bytes = 0; lengths = 0 })
+scanned_none {p} r h e =
+    record { held = h; within = omega arith; place = omega arith; rest = rw e (counting_none (records p)) }
+
+module _ {p : List ℕ} {r : Reader} {seen : declared_unpacked.Unpacked} (s : Scanned p r seen) (f : Record) (e : f ≡ first_of (drop r.at r.packet.now)) where
+  abbrev q : List ℕ
+  q = drop r.at p
+
+  first : first_of q ≡ f
+  first = sym (e ∙ ap (λ (l : List ℕ). first_of (drop r.at l)) s.held)
+
+  -- a whole record further
+  module _ (n : ℕ) (l : Ok (Some n) ≡ length_of f) where
+    next : Next q n
+    next = reads_whole q n (first ∙ sized_whole f n l)
+
+    pub scanned_fits : r.at + (2 + n) ≤ length p
+    scanned_fits = omega (arith, next.fits, length-drop r.at p)
+
+    pub scanned_one : Scanned p (record { packet = r.packet; at = r.at + (2 + n) }) (record { bytes = seen.bytes + n; lengths = seen.lengths + 1 })
+    scanned_one =
+        let long : length (take n (drop 2 q)) ≡ n = omega (arith, length-take n (drop 2 q), length-drop 2 q, next.fits) in
+        record {
+          held = s.held;
+          within = scanned_fits;
+          place = omega (arith, s.place);
+          rest =
+              s.rest ∙ ap (counting seen.lengths seen.bytes) next.goes
+              ∙ counting_one seen.lengths seen.bytes (take n (drop 2 q)) (records (drop (2 + n) q))
+              ∙ rw (long, drop-drop (2 + n) r.at p);
+        }
+
+  -- its ends
+  pub scanned_end : Ok None ≡ length_of f → unpacked_said (Ok seen) ≡ counted (records p)
+  unfolding counting joined
+  scanned_end l = rw (s.rest, reads_end q (first ∙ sized_end f l), add-zero seen.bytes, add-zero seen.lengths)
+
+  pub scanned_broken : (w : Refusal) → Err w ≡ length_of f → unpack_refused (number_of w) ≡ counted (records p)
+  scanned_broken w l = broken_by seen.lengths seen.bytes q f first w l ∙ sym s.rest

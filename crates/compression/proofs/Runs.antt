@@ -1,81 +1,48 @@
 -- One record, packed and unpacked: what the runs of bytes that are laid come to. Assumes nothing.
-use Prim.Native.Nat.{ℕ, ◌+◌, ◌-◌, ◌/◌, ◌%◌, ◌<◌, ◌≤◌, min}
-use native.Mathlib.Nat.{add-zero}
+use Prim.Native.Nat.{ℕ, suc, ◌+◌, ◌-◌, ◌/◌, ◌%◌, ◌<◌, ◌≤◌, min}
 use native.Mathlib.Omega.{arith}
-use mathlib.Core.Path.{◌≡◌, refl, ap, sym, ◌∙◌}
-use mathlib.Core.Logic.{⊎_elim}
-use mathlib.Core.List.{List}
-use lib.ListN.{length, take, drop, get_or, set, length-drop}
-use lib.Seq.{paste, take_all}
+use mathlib.Core.Path.{◌≡◌, ap, ap₂, sym, ◌∙◌}
+use mathlib.Core.List.{List, [], ◌∷◌, ◌++◌, append-nil}
+use lib.ListN.{length, take, drop, get_or, set, length-drop, length-take}
+use lib.Seq.{take_all, get_or-take, drop-drop}
 use lib.Bits.{bit_xor}
-use Rattle.frame_info.proofs.Split.{split_eqb}
-use Rattle.compression.specs.Layout.{masked, record_of}
-use Rattle.compression.specs.Inside.{base_at}
-use Rattle.compression.proofs.Lists.{paste_more, same_part, before_paste, Laid, laid_none, laid_one}
+use Rattle.compression.specs.Layout.{length_limit, masked, sized, record_of}
+use Rattle.compression.specs.Promise.{over}
+use Rattle.compression.proofs.Lists.{front, front_more, front_all, front_grown}
 use Rattle.compression.proofs.Masking.{masked_at, masked_rest, length_masked}
 
--- the base is before what is laid, so it stays
-pub base_kept : (reference d out : List ℕ) (k from at : ℕ) → from ≤ at → take at out ≡ take at d
-    → base_at reference out k from at ≡ base_at reference d k from at
-base_kept reference d out k from at h e =
-    ⊎_elim (λ w. simp w.1) (λ w. simp w.1 (same_part from at out d h e)) (split_eqb k 0)
-
-pub base_laid : {d : List ℕ} {at : ℕ} {s out : List ℕ} {i n : ℕ} (reference : List ℕ) (k from : ℕ) → Laid d at s out i n → from ≤ at → at ≤ length d
-    → base_at reference out k from at ≡ base_at reference d k from at
-base_laid {d} {at} {s} {out} {i} reference k from l h m =
-    base_kept reference d out k from at h (ap (take at) l.same ∙ before_paste d at s i m)
-
--- the base that is found while bytes are laid reaches as far as the one at the start
-pub unmask_reach : {d : List ℕ} {at : ℕ} {s out : List ℕ} {i n : ℕ} (reference : List ℕ) (k from : ℕ) (b : List ℕ) → Laid d at s out i n
-    → from ≤ at → at ≤ length d → n ≤ length (base_at reference d k from at) → i < n → b ≡ base_at reference out k from at → i < length b
-unmask_reach reference k from b l h m p t e = omega (arith, ap length (e ∙ base_laid reference k from l h m))
-
-pub reached : {b base : List ℕ} (bytes : List ℕ) (j : ℕ) → b ≡ base → j ≡ min (length b) (length bytes) → j ≡ min (length base) (length bytes)
-reached bytes j e h = h ∙ ap (λ (l : List ℕ). min (length l) (length bytes)) e
-
--- one more byte of a record's input
-pub unmask_one : {d : List ℕ} {at : ℕ} {out : List ℕ} {i n : ℕ} (reference body : List ℕ) (k from : ℕ) (b : List ℕ)
-    → Laid d at (masked (base_at reference d k from at) body) out i n → from ≤ at → n ≤ length (base_at reference d k from at)
-    → n ≤ length body → at + n ≤ length d → i < n → b ≡ base_at reference out k from at
-    → Laid d at (masked (base_at reference d k from at) body) (set out (at + i) (bit_xor (get_or b i 0) (get_or body i 0))) (i + 1) n
-unmask_one {d} {at} {out} {i} {n} reference body k from b l h p q m t e =
-    let base : List ℕ = base_at reference d k from at in
-    laid_one (bit_xor (get_or b i 0) (get_or body i 0)) l t (omega (arith, length_masked base body)) m
-    (ap (λ (c : List ℕ). bit_xor (get_or c i 0) (get_or body i 0)) (e ∙ base_laid reference k from l h (omega arith))
-    ∙ masked_at base body i (omega arith) (omega arith))
-
-part_all : (l : List ℕ) (j : ℕ) → take (length l - j) (drop j l) ≡ drop j l
-part_all l j = take_all (length l - j) (drop j l) (omega (arith, length-drop j l))
+-- one more byte that the base reaches
+pub masked_more : {out : List ℕ} (d base bytes : List ℕ) (j i : ℕ) → j ≡ min (length base) (length bytes) → length bytes ≤ length d
+    → i < length (take j base) → out ≡ front d (masked base bytes) i
+    → set out i (bit_xor (get_or (take j base) i 0) (get_or bytes i 0)) ≡ front d (masked base bytes) (i + 1)
+masked_more {out} d base bytes j i h k t e =
+    let m : i < min j (length base) = omega (arith, length-take j base) in
+    ap₂ (λ (l : List ℕ) (b : ℕ). set l i (bit_xor b (get_or bytes i 0))) e (get_or-take j base i 0 (omega arith))
+    ∙ ap (set (front d (masked base bytes) i) i) (masked_at base bytes i (omega arith) (omega arith))
+    ∙ front_more d (masked base bytes) i 0 (omega (arith, length_masked base bytes)) (omega arith)
 
 -- the run that the base reaches, and then the rest as it is, are the masked bytes
-pub both_laid : {d₁ d₂ : List ℕ} (d : List ℕ) (at : ℕ) (base bytes : List ℕ) (j : ℕ) → at + length bytes ≤ length d
-    → j ≡ min (length base) (length bytes) → d₁ ≡ paste d at (masked base bytes) j
-    → d₂ ≡ paste d₁ (at + j) (take (length bytes - j) (drop j bytes)) (length (take (length bytes - j) (drop j bytes)))
-    → d₂ ≡ paste d at (masked base bytes) (length bytes)
-both_laid {d₁} {d₂} d at base bytes j h e one two =
+pub masked_laid : {out rest : List ℕ} (d base bytes : List ℕ) (j : ℕ) → j ≡ min (length base) (length bytes) → out ≡ front d (masked base bytes) j
+    → rest ≡ take (length bytes - j) (drop j bytes)
+    → take j out ++ (rest ++ drop (length bytes - j) (drop j out)) ≡ over (masked base bytes) d
+masked_laid {out} {rest} d base bytes j h e f =
     let s : List ℕ = masked base bytes in
     let k : length s ≡ length bytes = length_masked base bytes in
     let t : length (drop j bytes) ≡ length bytes - j = length-drop j bytes in
-    let m : j + length (drop j bytes) ≡ length bytes = omega arith in
-    two ∙ ap (λ (r : List ℕ). paste d₁ (at + j) r (length r)) (part_all bytes j)
-    ∙ ap (λ (l : List ℕ). paste l (at + j) (drop j bytes) (length (drop j bytes))) one
-    ∙ paste_more d at s (drop j bytes) j (length (drop j bytes)) (omega arith) (omega arith)
-    (ap (take (length (drop j bytes))) (sym (masked_rest base bytes j e)))
-    ∙ ap (paste d at s) m
+    let m : j + length (drop j bytes) ≡ length s = omega arith in
+    let all : rest ≡ drop j bytes = f ∙ take_all (length bytes - j) (drop j bytes) (omega arith) in
+    ap₂ (λ (l r : List ℕ). take j l ++ (r ++ drop (length bytes - j) (drop j l))) e all
+    ∙ ap (λ (n : ℕ). take j (front d s j) ++ (drop j bytes ++ drop n (drop j (front d s j)))) (sym t)
+    ∙ front_grown d s (drop j bytes) [] j (omega arith) (masked_rest base bytes j h ∙ sym (append-nil (drop j bytes)))
+    ∙ ap (front d s) m ∙ front_all d s
 
 -- the two bytes of the length, and then the masked bytes, are the record
-pub record_laid : {d₁ : List ℕ} (d : List ℕ) (at : ℕ) (base input : List ℕ) → at + (2 + length input) ≤ length d
-    → d₁ ≡ paste (set (set d at (length input % 256)) (at + 1) (length input / 256)) (at + 2) (masked base input) (length input)
-    → d₁ ≡ paste d at (record_of base input) (2 + length input)
+pub record_laid : {two old rest : List ℕ} (d base input : List ℕ) → length input < length_limit → two ≡ length input % 256 ∷ length input / 256 % 256 ∷ []
+    → old ≡ drop 2 d → rest ≡ over (masked base input) old → two ++ rest ≡ over (record_of base input) d
 unfolding record_of
-record_laid {d₁} d at base input h e =
-    let s : List ℕ = record_of base input in
-    let k : length (masked base input) ≡ length input = length_masked base input in
-    let z : Laid d at s d 0 2 = laid_none d at s 2 in
-    let one : Laid d at s (set d (at + 0) (length input % 256)) (0 + 1) 2 =
-    laid_one (length input % 256) z (omega arith) (omega arith) (omega arith) refl in
-    let two : Laid d at s (set (set d (at + 0) (length input % 256)) (at + (0 + 1)) (length input / 256)) (0 + 1 + 1) 2 =
-    laid_one (length input / 256) one (omega arith) (omega arith) (omega arith) refl in
-    e ∙ ap (λ (l : List ℕ). paste l (at + 2) (masked base input) (length input))
-    (ap (λ (n : ℕ). set (set d n (length input % 256)) (at + 1) (length input / 256)) (sym (add-zero at)) ∙ two.same)
-    ∙ paste_more d at s (masked base input) 2 (length input) (omega arith) (omega arith) refl
+record_laid {two} {old} {rest} d base input h e f g =
+    let m : List ℕ = masked base input in
+    let high : length input / 256 % 256 ≡ length input / 256 = omega arith in
+    let k : 2 + length m ≡ suc (suc (length m)) = omega arith in
+    ap₂ (λ (a b : List ℕ). a ++ b) (e ∙ ap (λ (n : ℕ). length input % 256 ∷ n ∷ []) high) (g ∙ ap (over m) f)
+    ∙ ap (λ (l : List ℕ). sized (length input) ++ m ++ l) (drop-drop (length m) 2 d ∙ ap (λ (n : ℕ). drop n d) k)

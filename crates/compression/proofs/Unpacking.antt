@@ -1,21 +1,23 @@
 -- A whole packet, unpacked record by record. Assumes nothing.
 use Prim.Native.Nat.{ℕ, suc, ◌+◌, ◌-◌, ◌<◌, ◌≤◌}
-use native.Mathlib.Nat.{zero-add, add-zero}
+use native.Mathlib.Nat.{add-zero}
 use native.Mathlib.Omega.{arith}
-use mathlib.Core.Path.{◌≡◌, refl, ap, ap₂, sym, ◌∙◌}
+use mathlib.Core.Path.{◌≡◌, refl, ap, ap₂, sym, subst, ◌∙◌}
 use mathlib.Core.List.{List, [], ◌∷◌, ◌++◌}
 use Prim.{absurd}
-use lib.ListN.{length, take, drop, get_or, set, length-append, length-drop, length-take}
-use lib.Seq.{paste, get_or-drop, drop-drop, length-paste}
+use lib.ListN.{length, take, drop, get_or, set, length-append, length-drop, length-take, drop_of_length-le}
+use lib.Seq.{get_or-drop, drop-drop, take_at, take_all, length-take-le}
+use borrow.Author.Tests.{ne_eqb}
+use Rattle.std.proofs.lemmas.List.{drop-take}
 use Rattle.compression.specs.Layout.{masked, Reading, whole, half, short, after, records, restored, joined, lengths_of}
 use Rattle.compression.specs.Promise.{over, inputs_of, first_of}
 use Rattle.compression.specs.Inside.{base_at}
+use Rattle.compression.specs.declared.Reader.{Reader}
 use Rattle.compression.specs.declared.Record.{Record}
 use Rattle.compression.specs.declared.Record.TheVariants.{End, Half, Short, Whole}
-use Rattle.compression.proofs.Lists.{grown, grown_rest, paste_over, pasted_part, Laid, laid_none, laid_one, laid_all}
+use Rattle.compression.proofs.Lists.{front, front_more, front_all, take_front, front_grown, front_rest}
 use Rattle.compression.proofs.Masking.{length_masked}
 use Rattle.compression.proofs.Reading.{Next, reads_end, reads_half, reads_short, reads_whole}
-use Rattle.compression.proofs.Packing.{base_after}
 
 -- an input is as long as its record's bytes, so lengths are known before anything is unmasked
 pub lengths_restored : (base : List ℕ) (bodies : List (List ℕ)) → lengths_of (restored base bodies) ≡ lengths_of bodies
@@ -61,157 +63,203 @@ inputs_after body (whole rest) e = refl
 inputs_after body half e = cc
 inputs_after body short e = cc
 
-module _ (reference packet d e : List ℕ) where
-  -- the records from a place on, and the bytes and lengths of all inputs
-  abbrev pub bodies_from : ℕ → List (List ℕ)
-  bodies_from at = inputs_of (records (drop at packet))
+no_lengths : (bodies : List (List ℕ)) → lengths_of bodies ≡ [] → bodies ≡ []
+unfolding lengths_of
+no_lengths [] e = refl
+no_lengths (body ∷ bodies) e = cc
 
-  abbrev pub all_bytes : List ℕ
-  all_bytes = joined (restored reference (inputs_of (records packet)))
+-- the base in force after the first input
+base_after : (reference earlier : List ℕ) (k from upto : ℕ) → base_at reference earlier (k + 1) from upto ≡ take (upto - from) (drop from earlier)
+base_after reference earlier k from upto = simp (ne_eqb (k + 1) 0 (λ e. omega arith))
 
-  abbrev pub all_lengths : List ℕ
-  all_lengths = lengths_of (restored reference (inputs_of (records packet)))
+-- the records from a place on, and the bytes and lengths of all inputs
+abbrev pub bodies_from : List ℕ → ℕ → List (List ℕ)
+bodies_from packet at = inputs_of (records (drop at packet))
 
-  -- k inputs have been unpacked, of `upto` bytes; the last of them starts at `from`
-  pub record Unpacks (at k from upto : ℕ) (out lengths : List ℕ) : Type 0 where
-    pub within : at ≤ length packet
-    pub ordered : from ≤ upto
-    pub good : records (drop at packet) ≡ whole (bodies_from at)
-    pub bytes : Laid d 0 all_bytes out upto (length all_bytes)
-    pub bytes_rest : drop upto all_bytes ≡ joined (restored (base_at reference out k from upto) (bodies_from at))
-    pub sizes : Laid e 0 all_lengths lengths k (length all_lengths)
-    pub sizes_rest : drop k all_lengths ≡ lengths_of (bodies_from at)
+abbrev pub all_bytes : List ℕ → List ℕ → List ℕ
+all_bytes reference packet = joined (restored reference (inputs_of (records packet)))
 
-  module _ (sound : records packet ≡ whole (inputs_of (records packet)))
-      (room : length (joined (inputs_of (records packet))) ≤ length d) (places : length (inputs_of (records packet)) ≤ length e) where
-    pub unpacks_none : Unpacks 0 0 0 0 d e
-    unpacks_none =
-        record {
-          within = omega arith;
-          ordered = omega arith;
-          good = sound;
-          bytes = laid_none d 0 all_bytes (length all_bytes);
-          bytes_rest = refl;
-          sizes = laid_none e 0 all_lengths (length all_lengths);
-          sizes_rest = lengths_restored reference (inputs_of (records packet));
-        }
+abbrev pub all_lengths : List ℕ → List ℕ → List ℕ
+all_lengths reference packet = lengths_of (restored reference (inputs_of (records packet)))
 
-    -- a whole record of this size stands at the place
-    module _ (at k from upto : ℕ) (out lengths : List ℕ) (s : Unpacks at k from upto out lengths) (size : ℕ) (w : Whole size ≡ first_of (drop at packet)) where
-      abbrev body : List ℕ
-      body = take size (drop (at + 2) packet)
+-- the base in force, among all bytes
+abbrev pub base_among : List ℕ → List ℕ → ℕ → ℕ → ℕ → List ℕ
+base_among reference packet k from done = base_at reference (take done (all_bytes reference packet)) k from done
 
-      next : Next (drop at packet) size
-      next = reads_whole (drop at packet) size (sym w)
+-- k inputs have been unpacked, of `done` bytes; the last of them starts at `from`
+pub record Unpacks (reference packet d e : List ℕ) (r : Reader) (k from done : ℕ) (out lengths : List ℕ) : Type 0 where
+  pub held : r.packet.now ≡ packet
+  pub within : r.at ≤ length packet
+  pub good : records (drop r.at packet) ≡ whole (bodies_from packet r.at)
+  pub ordered : from ≤ done
+  pub some : done ≤ length (all_bytes reference packet)
+  pub bytes : out ≡ front d (all_bytes reference packet) done
+  pub bytes_rest : drop done (all_bytes reference packet) ≡ joined (restored (base_among reference packet k from done) (bodies_from packet r.at))
+  pub few : k ≤ length (all_lengths reference packet)
+  pub sizes : lengths ≡ front e (all_lengths reference packet) k
+  pub sizes_rest : drop k (all_lengths reference packet) ≡ lengths_of (bodies_from packet r.at)
 
-      pub unpacks_fits : at + (2 + size) ≤ length packet
-      unpacks_fits = omega (arith, next.fits, length-drop at packet)
+pub unpacks_none : {reference packet d e : List ℕ} (r : Reader) → r.packet.now ≡ packet → r.at ≡ 0 → records packet ≡ whole (inputs_of (records packet))
+    → Unpacks reference packet d e r 0 0 0 d e
+unpacks_none {reference} {packet} r held at sound =
+    let good : records (drop r.at packet) ≡ whole (bodies_from packet r.at) = rw at sound in
+    record {
+      held = held;
+      within = omega arith;
+      good = good;
+      ordered = omega arith;
+      some = omega arith;
+      bytes = refl;
+      bytes_rest = rw at refl;
+      few = omega arith;
+      sizes = refl;
+      sizes_rest = rw at (lengths_restored reference (inputs_of (records packet)));
+    }
 
-      goes : records (drop at packet) ≡ after body (records (drop (at + (2 + size)) packet))
-      goes =
-          next.goes ∙ ap₂ (λ (l m : List ℕ). after (take size l) (records m)) (drop-drop 2 at packet) (drop-drop (2 + size) at packet)
+module _ {reference packet d e : List ℕ} {r : Reader} {k from done : ℕ} {out lengths : List ℕ} (s : Unpacks reference packet d e r k from done out lengths) where
+  -- a whole record of this size stands at the place
+  module _ (size : ℕ) (w : Whole size ≡ first_of (drop r.at r.packet.now)) where
+    abbrev body : List ℕ
+    body = take size (drop (r.at + 2) packet)
 
-      good_rest : records (drop (at + (2 + size)) packet) ≡ whole (bodies_from (at + (2 + size)))
-      good_rest = after_whole body (records (drop (at + (2 + size)) packet)) (bodies_from at) (sym goes ∙ s.good)
+    abbrev later : List (List ℕ)
+    later = bodies_from packet (r.at + (2 + size))
 
-      bodies : bodies_from at ≡ body ∷ bodies_from (at + (2 + size))
-      bodies = ap inputs_of goes ∙ inputs_after body (records (drop (at + (2 + size)) packet)) good_rest
+    next : Next (drop r.at packet) size
+    next = reads_whole (drop r.at packet) size (ap (λ (l : List ℕ). first_of (drop r.at l)) (sym s.held) ∙ sym w)
 
-      long_body : length body ≡ size
-      long_body = omega (arith, length-take size (drop (at + 2) packet), length-drop (at + 2) packet, unpacks_fits)
+    fits : r.at + (2 + size) ≤ length packet
+    fits = omega (arith, next.fits, length-drop r.at packet)
 
-      -- the next input, and the inputs after it
-      abbrev input : List ℕ
-      input = masked (base_at reference out k from upto) body
+    pub unpacks_fits : r.at + (2 + size) ≤ length r.packet.now
+    unpacks_fits = rw s.held fits
 
-      abbrev later : List ℕ
-      later = joined (restored input (bodies_from (at + (2 + size))))
+    goes : records (drop r.at packet) ≡ after body (records (drop (r.at + (2 + size)) packet))
+    goes =
+        next.goes ∙ ap₂ (λ (l m : List ℕ). after (take size l) (records m)) (drop-drop 2 r.at packet) (drop-drop (2 + size) r.at packet)
 
-      long_input : length input ≡ size
-      long_input = length_masked (base_at reference out k from upto) body ∙ long_body
+    good_rest : records (drop (r.at + (2 + size)) packet) ≡ whole later
+    good_rest = after_whole body (records (drop (r.at + (2 + size)) packet)) (bodies_from packet r.at) (sym goes ∙ s.good)
 
-      bytes_next : drop upto all_bytes ≡ input ++ later
-      unfolding restored joined
-      bytes_next = s.bytes_rest ∙ ap (λ (l : List (List ℕ)). joined (restored (base_at reference out k from upto) l)) bodies
+    bodies : bodies_from packet r.at ≡ body ∷ later
+    bodies = ap inputs_of goes ∙ inputs_after body (records (drop (r.at + (2 + size)) packet)) good_rest
 
-      sizes_next : drop k all_lengths ≡ size ∷ lengths_of (bodies_from (at + (2 + size)))
-      unfolding lengths_of
-      sizes_next =
-          s.sizes_rest ∙ ap lengths_of bodies
-          ∙ ap (λ (n : ℕ). n ∷ lengths_of (bodies_from (at + (2 + size)))) long_body
+    long_body : length body ≡ size
+    long_body = omega (arith, length-take size (drop (r.at + 2) packet), length-drop (r.at + 2) packet, fits)
 
-      -- there is room for it
-      pub unpacks_room : upto + size ≤ length all_bytes
-      unpacks_room =
-          omega (
-            arith,
-            length-drop upto all_bytes,
-            ap length bytes_next,
-            length-append input later,
-            long_input,
-            s.bytes.some,
-          )
+    -- the next input, and the bytes of those after it
+    abbrev input : List ℕ
+    input = masked (base_among reference packet k from done) body
 
-      pub unpacks_place : k < length all_lengths
-      unpacks_place = omega (arith, length-drop k all_lengths, ap length sizes_next, s.sizes.some)
+    long_input : length input ≡ size
+    long_input = length_masked (base_among reference packet k from done) body ∙ long_body
 
-      long_all : length all_bytes ≤ length d
-      long_all = omega (arith, joined_restored reference (inputs_of (records packet)))
+    bytes_next : drop done (all_bytes reference packet) ≡ input ++ joined (restored input later)
+    unfolding restored joined
+    bytes_next = s.bytes_rest ∙ ap (λ (l : List (List ℕ)). joined (restored (base_among reference packet k from done) l)) bodies
 
-      many_all : length all_lengths ≤ length e
-      many_all =
-          omega (
-            arith,
-            count_lengths (restored reference (inputs_of (records packet))),
-            count_restored reference (inputs_of (records packet)),
-          )
+    sizes_next : drop k (all_lengths reference packet) ≡ size ∷ lengths_of later
+    unfolding lengths_of
+    sizes_next = s.sizes_rest ∙ ap lengths_of bodies ∙ ap (λ (n : ℕ). n ∷ lengths_of later) long_body
 
-      -- and is unpacked
-      pub unpacks_turn : (out' b : List ℕ) → b ≡ body → out' ≡ paste out upto (masked (base_at reference out k from upto) b) (length b)
-          → Unpacks (at + (2 + size)) (k + 1) upto (upto + size) out' (set lengths k size)
-      unpacks_turn out' b same put =
-          let w : out' ≡ paste out upto input (length body) =
-          put ∙ ap (λ (l : List ℕ). paste out upto (masked (base_at reference out k from upto) l) (length l)) same in
-          let laid : out' ≡ paste d 0 all_bytes (upto + size) =
-          w ∙ ap (λ (l : List ℕ). paste l upto input (length body)) s.bytes.same
-          ∙ ap (paste (paste d 0 all_bytes upto) upto input) (long_body ∙ sym long_input)
-          ∙ grown d all_bytes input later upto s.bytes.some (omega (arith, long_all, unpacks_room)) bytes_next
-          ∙ ap (λ (n : ℕ). paste d 0 all_bytes (upto + n)) long_input in
-          let gap : upto + size - upto ≡ size = omega arith in
-          let back : base_at reference out' (k + 1) upto (upto + size) ≡ input =
-          base_after reference out' k upto (upto + size)
-          ∙ ap₂ (λ (n : ℕ) (l : List ℕ). take n (drop upto l)) gap (w ∙ ap (paste out upto input) long_body)
-          ∙ pasted_part out input upto size (omega (arith, s.bytes.long, long_all, unpacks_room)) long_input in
-          let one : Laid e 0 all_lengths (set lengths (0 + k) size) (k + 1) (length all_lengths) =
-          laid_one size s.sizes unpacks_place (omega arith) (omega (arith, many_all))
-          (sym (ap (λ (l : List ℕ). get_or l 0 0) sizes_next) ∙ get_or-drop k all_lengths 0 0 ∙ ap (λ (n : ℕ). get_or all_lengths n 0) (add-zero k)) in
-          record {
-            within = unpacks_fits;
-            ordered = omega arith;
-            good = good_rest;
-            bytes =
-                record {
-                  same = laid;
-                  long = ap length laid ∙ length-paste d 0 all_bytes (upto + size) (omega (arith, long_all, unpacks_room)) unpacks_room;
-                  some = unpacks_room;
-                };
-            bytes_rest =
-                ap (λ (n : ℕ). drop (upto + n) all_bytes) (sym long_input) ∙ grown_rest all_bytes input later upto bytes_next
-                ∙ ap (λ (l : List ℕ). joined (restored l (bodies_from (at + (2 + size))))) (sym back);
-            sizes = rw zero-add at one;
-            sizes_rest = grown_rest all_lengths (size ∷ []) (lengths_of (bodies_from (at + (2 + size)))) k sizes_next;
-          }
+    -- there is room for it
+    room : done + size ≤ length (all_bytes reference packet)
+    room =
+        omega (
+          arith,
+          length-drop done (all_bytes reference packet),
+          ap length bytes_next,
+          length-append input (joined (restored input later)),
+          long_input,
+          s.some,
+        )
 
-    -- at the end of the packet nothing is left
-    module _ (at k from upto : ℕ) (out lengths : List ℕ) (s : Unpacks at k from upto out lengths) (none : bodies_from at ≡ []) where
-      pub unpacks_bytes : out ≡ over all_bytes d
-      unfolding restored joined
-      unpacks_bytes =
-          let r : drop upto all_bytes ≡ [] = s.bytes_rest ∙ ap (λ (l : List (List ℕ)). joined (restored (base_at reference out k from upto) l)) none in
-          laid_all s.bytes (omega (arith, length-drop upto all_bytes, ap length r)) ∙ paste_over d all_bytes
+    place : k < length (all_lengths reference packet)
+    place = omega (arith, length-drop k (all_lengths reference packet), ap length sizes_next, s.few)
 
-      pub unpacks_lengths : lengths ≡ over all_lengths e
-      unfolding lengths_of
-      unpacks_lengths =
-          let r : drop k all_lengths ≡ [] = s.sizes_rest ∙ ap lengths_of none in
-          laid_all s.sizes (omega (arith, length-drop k all_lengths, ap length r)) ∙ paste_over e all_lengths
+    module _ {b : List ℕ} (same : b ≡ take size (drop (r.at + 2) r.packet.now)) where
+      is_body : b ≡ body
+      is_body = same ∙ ap (λ (l : List ℕ). take size (drop (r.at + 2) l)) s.held
+
+      pub unpacks_long : length b ≡ size
+      unpacks_long = ap length is_body ∙ long_body
+
+      module _ (space : length (joined (inputs_of (records packet))) ≤ length d) (places : length (inputs_of (records packet)) ≤ length e) where
+        pub unpacks_room : done + length b ≤ length d
+        unpacks_room = omega (arith, room, unpacks_long, joined_restored reference (inputs_of (records packet)))
+
+        -- and is unpacked
+        pub unpacks_turn : {earlier rest part base : List ℕ} → earlier ≡ take done out → rest ≡ drop done out
+            → base ≡ base_at reference earlier k from (length earlier) → part ≡ over (masked base b) rest
+            → Unpacks reference packet d e (record { packet = r.packet; at = r.at + (2 + length b) }) (k + 1) done (done + length b) (earlier ++ part) (set lengths k size)
+        unpacks_turn {earlier} {rest} {part} {base} front_is rest_is base_is put =
+            let all : List ℕ = all_bytes reference packet in
+            let sizes : List ℕ = all_lengths reference packet in
+            let many : length sizes ≤ length e =
+            omega (arith, count_lengths (restored reference (inputs_of (records packet))), count_restored reference (inputs_of (records packet))) in
+            let before : take done out ≡ take done all = ap (take done) s.bytes ∙ take_front d all done s.some in
+            let far : length earlier ≡ done = ap length (front_is ∙ before) ∙ length-take-le done all s.some in
+            let in_force : base ≡ base_among reference packet k from done =
+            base_is ∙ ap₂ (λ (l : List ℕ) (n : ℕ). base_at reference l k from n) (front_is ∙ before) far in
+            let written : part ≡ over input rest =
+            put ∙ ap₂ (λ (l m : List ℕ). over (masked l m) rest) in_force is_body in
+            let laid : earlier ++ part ≡ front d all (done + size) =
+            ap₂ (λ (l m : List ℕ). l ++ m) front_is (written ∙ ap (over input) rest_is)
+            ∙ ap (λ (o : List ℕ). take done o ++ over input (drop done o)) s.bytes
+            ∙ front_grown d all input (joined (restored input later)) done s.some bytes_next
+            ∙ ap (λ (n : ℕ). front d all (done + n)) long_input in
+            let gap : done + size - done ≡ size = omega arith in
+            let back : base_among reference packet (k + 1) done (done + size) ≡ input =
+            base_after reference (take (done + size) all) k done (done + size)
+            ∙ ap₂ (λ (n : ℕ) (l : List ℕ). take n l) gap (drop-take done size all ∙ ap (take size) bytes_next ∙ take_at input (joined (restored input later)) size long_input)
+            ∙ take_all size input (omega (arith, long_input)) in
+            let first : size ≡ get_or sizes k 0 =
+            sym (ap (λ (l : List ℕ). get_or l 0 0) sizes_next) ∙ get_or-drop k sizes 0 0 ∙ ap (λ (n : ℕ). get_or sizes n 0) (add-zero k) in
+            let P : ℕ → Type 0 =
+            λ n. Unpacks reference packet d e (record { packet = r.packet; at = r.at + (2 + n) }) (k + 1) done (done + n) (earlier ++ part) (set lengths k size) in
+            subst P (sym unpacks_long)
+            (record {
+              held = s.held;
+              within = fits;
+              good = good_rest;
+              ordered = omega arith;
+              some = room;
+              bytes = laid;
+              bytes_rest =
+                  ap (λ (n : ℕ). drop (done + n) all) (sym long_input) ∙ front_rest all input (joined (restored input later)) done bytes_next
+                  ∙ ap (λ (l : List ℕ). joined (restored l later)) (sym back);
+              few = omega (arith, place);
+              sizes = ap₂ (λ (l : List ℕ) (n : ℕ). set l k n) s.sizes first ∙ front_more e sizes k 0 place (omega (arith, place, many));
+              sizes_rest = front_rest sizes (size ∷ []) (lengths_of later) k sizes_next;
+            })
+
+  -- at the end of the packet nothing is left
+  module _ (none : bodies_from packet r.at ≡ []) where
+    pub unpacks_bytes : out ≡ over (all_bytes reference packet) d
+    unfolding restored joined
+    unpacks_bytes =
+        let all : List ℕ = all_bytes reference packet in
+        let left : drop done all ≡ [] =
+        s.bytes_rest ∙ ap (λ (l : List (List ℕ)). joined (restored (base_among reference packet k from done) l)) none in
+        let every : done ≡ length all = omega (arith, s.some, length-drop done all, ap length left) in
+        s.bytes ∙ ap (front d all) every ∙ front_all d all
+
+    pub unpacks_lengths : lengths ≡ over (all_lengths reference packet) e
+    unfolding lengths_of
+    unpacks_lengths =
+        let sizes : List ℕ = all_lengths reference packet in
+        let left : drop k sizes ≡ [] = s.sizes_rest ∙ ap lengths_of none in
+        let every : k ≡ length sizes = omega (arith, s.few, length-drop k sizes, ap length left) in
+        s.sizes ∙ ap (front e sizes) every ∙ front_all e sizes
+
+  -- which is where no whole record stands, or no place is left for a length
+  pub unpacks_ends : (f : Record) → f ≡ first_of (drop r.at r.packet.now) → ((n : ℕ) → f ≡ Whole n → ⊥) → bodies_from packet r.at ≡ []
+  unpacks_ends f e t =
+      ends (drop r.at packet) (bodies_from packet r.at) f (e ∙ ap (λ (l : List ℕ). first_of (drop r.at l)) s.held) t s.good
+
+  pub unpacks_full : length (inputs_of (records packet)) ≤ k → bodies_from packet r.at ≡ []
+  unpacks_full h =
+      let sizes : List ℕ = all_lengths reference packet in
+      let many : length sizes ≤ k =
+      omega (arith, count_lengths (restored reference (inputs_of (records packet))), count_restored reference (inputs_of (records packet))) in
+      no_lengths (bodies_from packet r.at) (sym s.sizes_rest ∙ drop_of_length-le sizes many)

@@ -4,7 +4,7 @@ use Rattle.frame_info.specs.Choice.{pick}
 use Rattle.frame_info.specs.Refusal.{done, half_length, fewer_bytes}
 use Rattle.compression.specs.Layout.{Reading, whole, half, short, joined}
 use Rattle.compression.specs.Promise.{unpack_refused}
-use Rattle.compression.specs.declared.Unpacked.{Unpacked}
+use Rattle.compression.specs.Answer.{Unpacked}
 
 -- the base in force: the reference for the first input, afterwards the input before, as a part of the bytes so far
 abbrev pub base_at : List ℕ → List ℕ → ℕ → ℕ → ℕ → List ℕ

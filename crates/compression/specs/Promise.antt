@@ -3,8 +3,7 @@ use Rattle.std.specs.Prelude.{ℕ, List, [], ◌∷◌, ◌++◌, length, drop, 
 use Rattle.frame_info.specs.Choice.{pick}
 use Rattle.frame_info.specs.Refusal.{done, half_length, fewer_bytes, lengths_differ, no_room_for_lengths, no_room_for_bytes}
 use Rattle.compression.specs.Layout.{Reading, whole, half, short, packed, joined, lengths_of, split, total, size_of}
-use Rattle.compression.specs.declared.Packed.{Packed}
-use Rattle.compression.specs.declared.Unpacked.{Unpacked}
+use Rattle.compression.specs.Answer.{Packed, Unpacked}
 use Rattle.compression.specs.declared.Record.{Record}
 use Rattle.compression.specs.declared.Record.TheVariants.{End, Half, Short, Whole}
 

@@ -1,4 +1,5 @@
-// How a word that is served stands: ggrs's `InputStatus`, as a number, since lists of numbers hold it.
+// How a word that is served stands: ggrs's `InputStatus`.
+// Kept: a number, since the lists that C lends to `desk_advance` and `layer_request` hold it.
 pub type InputStatus = u32;
 
 // The word was stored.

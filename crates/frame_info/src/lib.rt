@@ -32,6 +32,7 @@ pub const BLANK: u32 = 0;
 const HIGHEST_COUNT: u32 = 2_147_483_648;
 
 // The frame as a count: 0 for one below 0.
+// Kept: a function, since `From` between two numbers is std's to write.
 pub fn count_of(frame: i32) -> u32
     ensures { result ≡ count_of frame }
 {
@@ -91,6 +92,7 @@ pub fn box_of(word: u32) -> u32
 
 // The guess that a predictor makes from the newest word. A number that is no predictor's is taken
 // for 2, the jog cleared; setups refuse it.
+// Kept: a number and no enum, since `predicted` and the queue's `input` promise an answer for any.
 #[tactic(auto, unfolding(crate::specs::Word::predicted))]
 pub fn predict(predictor: u32, word: u32) -> u32
     ensures { result ≡ predicted predictor word }

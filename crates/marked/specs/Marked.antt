@@ -18,7 +18,7 @@ use Rattle.sync_layer.specs.Runs as layers
 use Rattle.sync_layer.specs.Runs.{Layer}
 use Rattle.compression.specs.Layout.{joined, lengths_of, unpacked}
 use Rattle.compression.specs.Promise.{pack_answer, pack_out, unpack_answer, unpack_out, unpack_lengths, unpack_refused}
-use Rattle.compression.specs.declared.Unpacked.{Unpacked}
+use Rattle.compression.specs.Answer.{Unpacked}
 use Rattle.time_sync.specs.declared.TimeSync.{TimeSync}
 use Rattle.time_sync.specs.Windows.{fresh, advanced}
 use Rattle.time_sync.specs.Sums.{window_sum}

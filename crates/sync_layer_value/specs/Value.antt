@@ -11,14 +11,7 @@ use Rattle.sync_layer.specs.Calls as calls
 use Rattle.sync_layer.specs.Whole as bounds
 use Rattle.sync_layer.specs.Runs.{Call, advance_call, save_call, load_call, local_call, remote_call, delay_call, reset_call, request_call, confirm_call}
 use Rattle.sync_layer_value.specs.declared.SyncLayer.{SyncLayer}
-use Rattle.sync_layer_value.specs.declared.OpenedLayer.{OpenedLayer}
-use Rattle.sync_layer_value.specs.declared.AdvancedLayer.{AdvancedLayer}
-use Rattle.sync_layer_value.specs.declared.ConfirmedLayer.{ConfirmedLayer}
-use Rattle.sync_layer_value.specs.declared.LoadedLayer.{LoadedLayer}
-use Rattle.sync_layer_value.specs.declared.PlacedLayer.{PlacedLayer}
-use Rattle.sync_layer_value.specs.declared.AnnouncedLayer.{AnnouncedLayer}
-use Rattle.sync_layer_value.specs.declared.ServedLayer.{ServedLayer}
-use Rattle.sync_layer_value.specs.declared.ConfirmedInputs.{ConfirmedInputs}
+use Rattle.sync_layer_value.specs.Answer.{OpenedLayer, AdvancedLayer, ConfirmedLayer, LoadedLayer, PlacedLayer, AnnouncedLayer, ServedLayer, ConfirmedInputs}
 
 abbrev pub Whole : SyncLayer → Type 0
 Whole y = bounds.Whole y.state y.seats y.words y.slots

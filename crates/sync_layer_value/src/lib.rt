@@ -4,14 +4,17 @@
 
 ghost use Rattle.std.specs.Prelude.{◌≡◌};
 ghost use Rattle.sync_layer.specs.Calls as calls;
+ghost use Rattle.sync_layer.specs.Said.{saved_said, latest_said};
+ghost use Rattle.sync_layer_value.specs.Said.{opened_said, advanced_said, loaded_said, placed_said, announced_said, served_said, inputs_said, confirmed_said};
 ghost use Rattle.sync_layer_value.specs.Value as held;
 
 use console::Console;
-use frame_info::PlayerInput;
 use frame_info::input_status::InputStatus;
-use sync_layer::{Latest, LayerState, MAX_SEATS, SEATS_LENGTH, SLOTS_LENGTH, Saved, WORDS_LENGTH};
+use frame_info::refusal::Refusal;
+use frame_info::{BLANK, PlayerInput};
+use sync_layer::{LayerState, MAX_SEATS, SEATS_LENGTH, SLOTS_LENGTH, WORDS_LENGTH};
 
-#[derive(Clone, Copy)]
+#[derive(Clone, Copy, Debug, PartialEq, Eq)]
 pub struct SyncLayer {
     pub state: LayerState,
     pub seats: [u32; SEATS_LENGTH],
@@ -19,41 +22,29 @@ pub struct SyncLayer {
     pub slots: [u32; SLOTS_LENGTH],
 }
 
-#[derive(Clone, Copy)]
+// A setup's answer. One that is refused hands back a fresh layer too: so the two stand side by side,
+// and are no `Result`.
+#[derive(Clone, Copy, Debug, PartialEq, Eq)]
 pub struct OpenedLayer {
-    pub no: u32,
+    pub refused: Option<Refusal>,
     pub layer: SyncLayer,
 }
 
-#[derive(Clone, Copy)]
-pub struct AdvancedLayer {
-    pub no: u32,
-    pub layer: SyncLayer,
-}
-
-#[derive(Clone, Copy)]
-pub struct ConfirmedLayer {
-    pub no: u32,
-    pub layer: SyncLayer,
-}
-
-#[derive(Clone, Copy)]
+// What the other calls answer where they are not refused.
+#[derive(Clone, Copy, Debug, PartialEq, Eq)]
 pub struct LoadedLayer {
-    pub no: u32,
     pub state: Console,
     pub layer: SyncLayer,
 }
 
-#[derive(Clone, Copy)]
+#[derive(Clone, Copy, Debug, PartialEq, Eq)]
 pub struct PlacedLayer {
-    pub no: u32,
     pub place: i32,
     pub layer: SyncLayer,
 }
 
-#[derive(Clone, Copy)]
+#[derive(Clone, Copy, Debug, PartialEq, Eq)]
 pub struct AnnouncedLayer {
-    pub no: u32,
     pub first: i32,
     pub count: u32,
     pub word: u32,
@@ -61,36 +52,33 @@ pub struct AnnouncedLayer {
 }
 
 // The words and their statuses, seat by seat; 0 past the layer's seats.
-#[derive(Clone, Copy)]
+#[derive(Clone, Copy, Debug, PartialEq, Eq)]
 pub struct ServedLayer {
-    pub no: u32,
     pub inputs: [u32; MAX_SEATS],
     pub statuses: [InputStatus; MAX_SEATS],
     pub layer: SyncLayer,
 }
 
-#[derive(Clone, Copy)]
+#[derive(Clone, Copy, Debug, PartialEq, Eq)]
 pub struct ConfirmedInputs {
-    pub no: u32,
     pub frames: [i32; MAX_SEATS],
     pub inputs: [u32; MAX_SEATS],
 }
 
 impl SyncLayer {
+    #[tactic(auto, unfolding(crate::specs::Value::opened))]
     pub fn new(limit: u32, predictor: u32, delays: &[u32]) -> OpenedLayer
-        ensures { result ≡ held.opened limit predictor delays.now }
+        ensures { opened_said result ≡ held.opened limit predictor delays.now }
     {
         let mut seats = [0u32; SEATS_LENGTH];
-        let words = [0u32; WORDS_LENGTH];
         let mut slots = [0u32; SLOTS_LENGTH];
-        let o = sync_layer::new(&mut seats, &mut slots, limit, predictor, delays);
-        let state = o.layer;
+        let opened = sync_layer::new(&mut seats, &mut slots, limit, predictor, delays);
         OpenedLayer {
-            no: o.no,
+            refused: opened.refused,
             layer: SyncLayer {
-                state,
+                state: opened.layer,
                 seats,
-                words,
+                words: [BLANK; WORDS_LENGTH],
                 slots,
             },
         }
@@ -100,226 +88,184 @@ impl SyncLayer {
         requires { held.Whole self }
         ensures { result ≡ calls.current_frame_of self.state }
     {
-        let state = self.state;
-        sync_layer::current_frame(state)
+        sync_layer::current_frame(self.state)
     }
 
     pub fn last_saved_frame(self) -> i32
         ensures { result ≡ calls.last_saved self.state }
     {
-        let state = self.state;
-        sync_layer::last_saved_frame(state)
+        sync_layer::last_saved_frame(self.state)
     }
 
     pub fn last_confirmed_frame(self) -> i32
         ensures { result ≡ calls.last_confirmed self.state }
     {
-        let state = self.state;
-        sync_layer::last_confirmed_frame(state)
+        sync_layer::last_confirmed_frame(self.state)
     }
 
-    pub fn advance_frame(self) -> AdvancedLayer
+    #[tactic(auto, unfolding(crate::specs::Value::advanced))]
+    pub fn advance_frame(self) -> Result<SyncLayer, Refusal>
         requires { held.Whole self }
-        ensures { result ≡ held.advanced self }
+        ensures { advanced_said self result ≡ held.advanced self }
     {
-        let s = self.state;
-        let a = sync_layer::advance_frame(s);
-        let state = a.layer;
-        let mut layer = self;
-        layer.state = state;
-        AdvancedLayer { no: a.no, layer }
+        let state = sync_layer::advance_frame(self.state)?;
+        Ok(SyncLayer { state, ..self })
     }
 
-    pub fn save_current_state(self, state: Console) -> SyncLayer
+    #[tactic(auto, unfolding(crate::specs::Value::saved))]
+    pub fn save_current_state(mut self, state: Console) -> SyncLayer
         requires { held.Whole self }
         ensures { result ≡ held.saved self state }
     {
         let s = self.state;
-        let mut slots = self.slots;
-        let mut layer = self;
-        layer.state = sync_layer::save_current_state(&mut slots, s, state);
-        layer.slots = slots;
-        layer
+        let state = sync_layer::save_current_state(&mut self.slots, s, state);
+        SyncLayer { state, ..self }
     }
 
-    pub fn load_frame(self, frame: i32) -> LoadedLayer
+    #[tactic(auto, unfolding(crate::specs::Value::loaded))]
+    pub fn load_frame(self, frame: i32) -> Result<LoadedLayer, Refusal>
         requires { held.Whole self }
-        ensures { result ≡ held.loaded self frame }
+        ensures { loaded_said self result ≡ held.loaded self frame }
+    {
+        let loaded = sync_layer::load_frame(&self.slots, self.state, frame)?;
+        Ok(LoadedLayer {
+            state: loaded.state,
+            layer: SyncLayer {
+                state: loaded.layer,
+                ..self
+            },
+        })
+    }
+
+    pub fn saved_state_by_frame(self, frame: i32) -> Result<Console, Refusal>
+        requires { held.Whole self }
+        ensures { saved_said result ≡ calls.saved_by self.state self.slots frame }
+    {
+        sync_layer::saved_state_by_frame(&self.slots, self.state, frame)
+    }
+
+    pub fn latest_saved_state_in_range(self, start: i32, end: i32) -> Result<i32, Refusal>
+        requires { held.Whole self }
+        ensures { latest_said result ≡ calls.latest self.state self.slots start end }
+    {
+        sync_layer::latest_saved_state_in_range(&self.slots, self.state, start, end)
+    }
+
+    #[tactic(auto, using(frame_info::proofs::Refusals::number_some), unfolding(crate::specs::Value::local, sync_layer::specs::Calls::Inputs::local, sync_layer::specs::Calls::Inputs::local_seats, sync_layer::specs::Calls::Inputs::local_words))]
+    pub fn add_local_input(mut self, seat: u32, input: PlayerInput) -> Result<PlacedLayer, Refusal>
+        requires { held.Whole self }
+        ensures { placed_said self result ≡ held.local self seat input }
     {
         let s = self.state;
-        let slots = self.slots;
-        let l = sync_layer::load_frame(&slots, s, frame);
-        let state = l.layer;
-        let saved = l.state;
-        let mut layer = self;
-        layer.state = state;
-        LoadedLayer {
-            no: l.no,
-            state: saved,
-            layer,
-        }
+        let place = sync_layer::add_local_input(&mut self.seats, &mut self.words, s, seat, input)?;
+        Ok(PlacedLayer { place, layer: self })
     }
 
-    pub fn saved_state_by_frame(self, frame: i32) -> Saved
+    #[tactic(auto, using(frame_info::proofs::Refusals::number_some), unfolding(crate::specs::Value::remote, sync_layer::specs::Calls::Inputs::remote, sync_layer::specs::Calls::Inputs::remote_seats, sync_layer::specs::Calls::Inputs::remote_words))]
+    pub fn add_remote_input(mut self, seat: u32, input: PlayerInput) -> Result<PlacedLayer, Refusal>
         requires { held.Whole self }
-        ensures { result ≡ calls.saved_by self.state self.slots frame }
+        ensures { placed_said self result ≡ held.remote self seat input }
     {
         let s = self.state;
-        let slots = self.slots;
-        sync_layer::saved_state_by_frame(&slots, s, frame)
+        let place = sync_layer::add_remote_input(&mut self.seats, &mut self.words, s, seat, input)?;
+        Ok(PlacedLayer { place, layer: self })
     }
 
-    pub fn latest_saved_state_in_range(self, start: i32, end: i32) -> Latest
+    #[tactic(auto, using(crate::proofs::Delays::delay_refused), unfolding(crate::specs::Value::delayed_to))]
+    pub fn set_frame_delay(mut self, seat: u32, delay: u32) -> Result<AnnouncedLayer, Refusal>
         requires { held.Whole self }
-        ensures { result ≡ calls.latest self.state self.slots start end }
+        ensures { announced_said self result ≡ held.delayed_to self seat delay }
     {
         let s = self.state;
-        let slots = self.slots;
-        sync_layer::latest_saved_state_in_range(&slots, s, start, end)
+        let announced = sync_layer::set_frame_delay(&mut self.seats, &self.words, s, seat, delay)?;
+        Ok(AnnouncedLayer {
+            first: announced.first,
+            count: announced.count,
+            word: announced.word,
+            layer: self,
+        })
     }
 
-    pub fn add_local_input(self, seat: u32, input: PlayerInput) -> PlacedLayer
-        requires { held.Whole self }
-        ensures { result ≡ held.local self seat input }
-    {
-        let s = self.state;
-        let mut seats = self.seats;
-        let mut words = self.words;
-        let p = sync_layer::add_local_input(&mut seats, &mut words, s, seat, input);
-        let mut layer = self;
-        layer.seats = seats;
-        layer.words = words;
-        PlacedLayer {
-            no: p.no,
-            place: p.place,
-            layer,
-        }
-    }
-
-    pub fn add_remote_input(self, seat: u32, input: PlayerInput) -> PlacedLayer
-        requires { held.Whole self }
-        ensures { result ≡ held.remote self seat input }
-    {
-        let s = self.state;
-        let mut seats = self.seats;
-        let mut words = self.words;
-        let p = sync_layer::add_remote_input(&mut seats, &mut words, s, seat, input);
-        let mut layer = self;
-        layer.seats = seats;
-        layer.words = words;
-        PlacedLayer {
-            no: p.no,
-            place: p.place,
-            layer,
-        }
-    }
-
-    pub fn set_frame_delay(self, seat: u32, delay: u32) -> AnnouncedLayer
-        requires { held.Whole self }
-        ensures { result ≡ held.delayed_to self seat delay }
-    {
-        let s = self.state;
-        let mut seats = self.seats;
-        let words = self.words;
-        let d = sync_layer::set_frame_delay(&mut seats, &words, s, seat, delay);
-        let mut layer = self;
-        layer.seats = seats;
-        AnnouncedLayer {
-            no: d.no,
-            first: d.first,
-            count: d.count,
-            word: d.word,
-            layer,
-        }
-    }
-
-    pub fn reset_prediction(self) -> SyncLayer
+    pub fn reset_prediction(mut self) -> SyncLayer
         requires { held.Whole self }
         ensures { result ≡ held.reset self }
     {
         let s = self.state;
-        let mut seats = self.seats;
-        sync_layer::reset_prediction(&mut seats, s);
-        let mut layer = self;
-        layer.seats = seats;
-        layer
+        sync_layer::reset_prediction(&mut self.seats, s);
+        self
     }
 
-    pub fn synchronized_inputs(self, disconnected: &[bool], last_frame: &[i32]) -> ServedLayer
+    #[tactic(auto, using(frame_info::proofs::Refusals::number_some), unfolding(crate::specs::Value::served, sync_layer::specs::Calls::Requests::served_seats, sync_layer::specs::Calls::Requests::served_words, sync_layer::specs::Calls::Requests::statuses))]
+    pub fn synchronized_inputs(
+        mut self,
+        disconnected: &[bool],
+        last_frame: &[i32],
+    ) -> Result<ServedLayer, Refusal>
         requires { held.Whole self }
-        ensures { result ≡ held.served self disconnected.now last_frame.now }
+        ensures { served_said self result ≡ held.served self disconnected.now last_frame.now }
     {
         let s = self.state;
-        let mut seats = self.seats;
-        let words = self.words;
-        let mut inputs = [0u32; MAX_SEATS];
+        let mut inputs = [BLANK; MAX_SEATS];
         let mut statuses = [0u32; MAX_SEATS];
-        let no = sync_layer::synchronized_inputs(
-            &mut seats,
-            &words,
+        sync_layer::synchronized_inputs(
+            &mut self.seats,
+            &self.words,
             s,
             disconnected,
             last_frame,
             &mut inputs,
             &mut statuses,
-        );
-        let mut layer = self;
-        layer.seats = seats;
-        ServedLayer {
-            no,
+        )?;
+        Ok(ServedLayer {
             inputs,
             statuses,
-            layer,
-        }
+            layer: self,
+        })
     }
 
+    #[tactic(auto, using(frame_info::proofs::Refusals::number_some), unfolding(crate::specs::Value::confirmed_inputs, sync_layer::specs::Calls::Requests::confirmed_frames, sync_layer::specs::Calls::Requests::confirmed_words))]
     pub fn confirmed_inputs(
         self,
         disconnected: &[bool],
         last_frame: &[i32],
         frame: i32,
-    ) -> ConfirmedInputs
+    ) -> Result<ConfirmedInputs, Refusal>
         requires { held.Whole self }
-        ensures { result ≡ held.confirmed_inputs self disconnected.now last_frame.now frame }
+        ensures { inputs_said result ≡ held.confirmed_inputs self disconnected.now last_frame.now frame }
     {
-        let s = self.state;
-        let seats = self.seats;
-        let words = self.words;
         let mut frames = [0i32; MAX_SEATS];
-        let mut inputs = [0u32; MAX_SEATS];
-        let no = sync_layer::confirmed_inputs(
-            &seats,
-            &words,
-            s,
+        let mut inputs = [BLANK; MAX_SEATS];
+        sync_layer::confirmed_inputs(
+            &self.seats,
+            &self.words,
+            self.state,
             disconnected,
             last_frame,
             frame,
             &mut frames,
             &mut inputs,
-        );
-        ConfirmedInputs { no, frames, inputs }
+        )?;
+        Ok(ConfirmedInputs { frames, inputs })
     }
 
-    pub fn set_last_confirmed_frame(self, frame: i32, sparse: bool) -> ConfirmedLayer
+    #[tactic(auto, using(frame_info::proofs::Refusals::number_some), unfolding(crate::specs::Value::confirmed, sync_layer::specs::Calls::Confirm::confirmed, sync_layer::specs::Calls::Confirm::confirmed_seats))]
+    pub fn set_last_confirmed_frame(
+        mut self,
+        frame: i32,
+        sparse: bool,
+    ) -> Result<SyncLayer, Refusal>
         requires { held.Whole self }
-        ensures { result ≡ held.confirmed self frame sparse }
+        ensures { confirmed_said self result ≡ held.confirmed self frame sparse }
     {
         let s = self.state;
-        let mut seats = self.seats;
-        let a = sync_layer::set_last_confirmed_frame(&mut seats, s, frame, sparse);
-        let state = a.layer;
-        let mut layer = self;
-        layer.state = state;
-        layer.seats = seats;
-        ConfirmedLayer { no: a.no, layer }
+        let state = sync_layer::set_last_confirmed_frame(&mut self.seats, s, frame, sparse)?;
+        Ok(SyncLayer { state, ..self })
     }
 
     pub fn check_simulation_consistency(self) -> i32
         requires { held.Whole self }
         ensures { result ≡ calls.lowest_mismatch self.state self.seats }
     {
-        let s = self.state;
-        let seats = self.seats;
-        sync_layer::check_simulation_consistency(&seats, s)
+        sync_layer::check_simulation_consistency(&self.seats, self.state)
     }
 }

@@ -1,27 +1,22 @@
-use Rattle.std.proofs.Common.{arith, ap, ◌∙◌}
-use Rattle.compression.specs.Promise.{unpack_refused, number_of}
-use Rattle.compression.specs.declared.Record.{Record}
-use Rattle.compression.proofs.Reading.{scanned_none, scanned_one, scanned_fits, scanned_end, scanned_half, scanned_short}
+use Rattle.std.proofs.Common.{ap, arith, List, ℕ, Bor}
+use Rattle.std.proofs.lemmas.Result.{err_from_is_err_and}
+use Rattle.compression.proofs.Reading.{scanned_none, scanned_fits, scanned_one, scanned_end, scanned_broken}
 use Rattle.compression.proofs.scan.Goals as goal
 
-pub loop-n-init : goal.loop-n-init
-loop-n-init c = scanned_none _
+pub loop-length-init : goal.loop-length-init
+loop-length-init c = scanned_none c.new-reader.result (ap (λ (b : Bor (List ℕ)). b.now) c.new-reader.ensures.0) c.new-reader.ensures.1
 
-pub returns-in-End : goal.returns-in-End
-returns-in-End c = scanned_end c.loop-n.invariant c.in-End.ensures
+pub returns-in_err-length : goal.returns-in_err-length
+returns-in_err-length c =
+    let p = err_from_is_err_and c.from_residual.result c.from_residual.ensures.1 in
+    rw (p.1, p.2) (scanned_broken c.loop-length.invariant _ c.next_record.ensures _ c.in_err-length.ensures.length)
 
-pub returns-in-Half : goal.returns-in-Half
-returns-in-Half c =
-    c.broken.ensures ∙ ap (λ (f : Record). unpack_refused (number_of f)) c.in-Half.is
-    ∙ scanned_half c.loop-n.invariant c.in-Half.ensures
+pub loop-length-smaller : goal.loop-length-smaller
+loop-length-smaller c =
+    omega (arith, scanned_fits c.loop-length.invariant _ c.next_record.ensures _ (rw c.in-Some.is at c.in_ok-length.ensures.length))
 
-pub returns-in-Short : goal.returns-in-Short
-returns-in-Short c =
-    c.broken-in-Short.ensures ∙ ap (λ (f : Record). unpack_refused (number_of f)) c.in-Short.is
-    ∙ scanned_short c.loop-n.invariant c.in-Short.ensures
+pub loop-length-preserved : goal.loop-length-preserved
+loop-length-preserved c = scanned_one c.loop-length.invariant _ c.next_record.ensures _ (rw c.in-Some.is at c.in_ok-length.ensures.length)
 
-pub loop-n-smaller : goal.loop-n-smaller
-loop-n-smaller c = omega (arith, scanned_fits c.in-Whole.n c.loop-n.invariant c.in-Whole.ensures)
-
-pub loop-n-preserved : goal.loop-n-preserved
-loop-n-preserved c = scanned_one c.in-Whole.n c.loop-n.invariant c.in-Whole.ensures
+pub returns : goal.returns
+returns c = scanned_end c.loop-length.invariant _ c.next_record.ensures (rw c.in_default.is at c.in_ok-length.ensures.length)

@@ -1,67 +1,32 @@
-use Rattle.std.proofs.Common.{◌≡◌, ap, [], length, drop, ◌+◌, arith, length-take}
-use Rattle.compression.specs.Layout.{records, restored}
-use Rattle.compression.specs.Promise.{inputs_of}
-use Rattle.compression.proofs.Unpacking.{ends, bodies_from, unpacks_none, unpacks_fits, unpacks_room, unpacks_place, unpacks_turn, unpacks_bytes, unpacks_lengths, joined_restored, count_lengths, count_restored}
+use Rattle.std.proofs.Common.{ap, arith, List, ℕ, Bor, ◌∙◌}
+use Rattle.std.proofs.lemmas.List.{set-get_or}
+use Rattle.compression.proofs.Unpacking.{unpacks_none, unpacks_fits, unpacks_room, unpacks_turn, unpacks_bytes, unpacks_lengths, unpacks_ends, unpacks_full}
 use Rattle.compression.proofs.unpack_all.Goals as goal
 
-pub loop-n-init : goal.loop-n-init
-loop-n-init c = unpacks_none _ _ _ _ c.requires.0 c.requires.1 c.requires.2
+pub loop-k-init : goal.loop-k-init
+loop-k-init c =
+    unpacks_none c.new-reader.result (ap (λ (b : Bor (List ℕ)). b.now) c.new-reader.ensures.0) c.new-reader.ensures.1 c.requires.0
 
 pub returns-in_default : goal.returns-in_default
 returns-in_default c =
-    let a = c.args in
-    let s = c.requires in
-    let l = c.loop-n in
-    let none : bodies_from a.reference.now a.packet.now a.out.now a.lengths.now l.at ≡ [] =
-    ends _ _ c.record_from-found.result c.record_from-found.ensures c.in_default.not-Whole l.invariant.good in (
-      unpacks_bytes a.reference.now a.packet.now a.out.now a.lengths.now s.0 s.1 s.2 l.at l.k l.from l.done l.out l.lengths l.invariant none,
-      unpacks_lengths a.reference.now a.packet.now a.out.now a.lengths.now s.0 s.1 s.2 l.at l.k l.from l.done l.out l.lengths l.invariant none,
-    )
+    let s = c.loop-k.invariant in
+    let none = unpacks_ends s c.next_record.result c.next_record.ensures c.in_default.not-Whole in
+    (unpacks_bytes s none, set-get_or c.loop-k.lengths c.loop-k.k 0 ∙ unpacks_lengths s none)
 
-pub body_from-body-requires : goal.body_from-body-requires
-body_from-body-requires c =
-    let a = c.args in
-    let s = c.requires in
-    let l = c.loop-n in
-    unpacks_fits a.reference.now a.packet.now a.out.now a.lengths.now s.0 s.1 s.2 l.at l.k l.from l.done l.out l.lengths l.invariant c.in-Whole.n c.in-Whole.ensures
+pub body-body-requires : goal.body-body-requires
+body-body-requires c = unpacks_fits c.loop-k.invariant c.in-Whole.length c.in-Whole.ensures
 
-pub unpack_one-requires : goal.unpack_one-requires
-unpack_one-requires c =
-    let a = c.args in
-    let s = c.requires in
-    let l = c.loop-n in
-    let n = c.in-Whole.n in
-    omega (
-      arith,
-      unpacks_room a.reference.now a.packet.now a.out.now a.lengths.now s.0 s.1 s.2 l.at l.k l.from l.done l.out l.lengths l.invariant n c.in-Whole.ensures,
-      joined_restored a.reference.now (inputs_of (records a.packet.now)),
-      ap length c.body_from-body.ensures,
-      length-take n (drop (l.at + 2) a.packet.now),
-    )
+pub mask-requires : goal.mask-requires
+mask-requires c =
+    omega (arith, unpacks_room c.loop-k.invariant c.in-Whole.length c.in-Whole.ensures c.body-body.ensures c.requires.1 c.requires.2)
 
-pub bounds-lengths-k : goal.bounds-lengths-k
-bounds-lengths-k c =
-    let a = c.args in
-    let s = c.requires in
-    let l = c.loop-n in
-    omega (
-      arith,
-      unpacks_place a.reference.now a.packet.now a.out.now a.lengths.now s.0 s.1 s.2 l.at l.k l.from l.done l.out l.lengths l.invariant c.in-Whole.n c.in-Whole.ensures,
-      count_lengths (restored a.reference.now (inputs_of (records a.packet.now))),
-      count_restored a.reference.now (inputs_of (records a.packet.now)),
-    )
+pub loop-k-preserved : goal.loop-k-preserved
+loop-k-preserved c =
+    let cut = c.split_at_mut-earlier.ensures in
+    unpacks_turn c.loop-k.invariant c.in-Whole.length c.in-Whole.ensures c.body-body.ensures c.requires.1 c.requires.2 cut.front cut.back c.base_of.ensures c.mask.ensures
 
-pub loop-n-smaller : goal.loop-n-smaller
-loop-n-smaller c =
-    let a = c.args in
-    let s = c.requires in
-    let l = c.loop-n in
-    omega (arith, unpacks_fits a.reference.now a.packet.now a.out.now a.lengths.now s.0 s.1 s.2 l.at l.k l.from l.done l.out l.lengths l.invariant c.in-Whole.n c.in-Whole.ensures)
-
-pub loop-n-preserved : goal.loop-n-preserved
-loop-n-preserved c =
-    let a = c.args in
-    let s = c.requires in
-    let l = c.loop-n in
-    unpacks_turn a.reference.now a.packet.now a.out.now a.lengths.now s.0 s.1 s.2 l.at l.k l.from l.done l.out l.lengths l.invariant c.in-Whole.n c.in-Whole.ensures
-    c.unpack_one.new.out c.body_from-body.result.now c.body_from-body.ensures c.unpack_one.ensures
+pub returns : goal.returns
+returns c =
+    let s = c.loop-k.invariant in
+    let none = unpacks_full s (omega (arith, c.requires.2)) in
+    (unpacks_bytes s none, unpacks_lengths s none)

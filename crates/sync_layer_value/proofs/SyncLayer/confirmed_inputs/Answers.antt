@@ -1,6 +1,0 @@
-use Rattle.sync_layer_value.proofs.Held.{holding}
-use borrow.Author.Rules.{rules}
-use Rattle.sync_layer_value.proofs.SyncLayer.confirmed_inputs.Goals as goal
-
-pub returns : goal.returns
-returns c = search (rules, holding)
