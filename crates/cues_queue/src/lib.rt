@@ -3,7 +3,7 @@
 
 ghost use Rattle.std.specs.Prelude.{◌≡◌, ◌+◌, ◌≤◌, length};
 ghost use Rattle.input_queue_value.specs.Value.{Whole};
-ghost use Rattle.cues_queue.specs.Stub.{number_of_queue_call};
+ghost use Rattle.sheet.specs.Said.{number_of_queue_call};
 ghost use Rattle.cues_text.specs.Text.{Puts};
 ghost use Rattle.cues_queue.specs.Queue as tells;
 
@@ -13,6 +13,7 @@ use cues_text::{
 };
 use frame_info::PlayerInput;
 use input_queue_value::InputQueue;
+use sheet::calls::QueueCall;
 
 fn open(args: &[u64], out: &mut [u8], at: usize) -> Told<InputQueue>
     requires { (2048 ≤ length args.now) × (at + 64 ≤ length out.old) }
@@ -156,6 +157,3 @@ pub fn make(
         },
     }
 }
-
-#[derive(Clone, Copy, Debug, PartialEq, Eq)]
-pub enum QueueCall { Open, Add, Request, Confirmed, Discard, Reset, Delay, Wrong }

@@ -46,6 +46,7 @@ fn average(sync: TimeSync, out: &mut [u8], at: usize) -> usize
     tell_frame(out, at, sync.average_frame_advantage())
 }
 
+#[tactic(auto, using(crate::proofs::Sizes::plain))]
 fn averages(sync: TimeSync, out: &mut [u8], at: usize) -> usize
     requires { at + 64 ≤ length out.old }
     ensures { result ≤ at + 63 }
@@ -65,6 +66,7 @@ fn tell_size(out: &mut [u8], at: usize, way: &[u8], size: u32) -> usize
     put_word_value(out, end, size)
 }
 
+#[tactic(auto, using(crate::proofs::Sizes::plain))]
 fn reading(sync: TimeSync, out: &mut [u8], at: usize) -> usize
     requires { at + 64 ≤ length out.old }
     ensures { result ≤ at + 63 }
@@ -77,6 +79,7 @@ fn reading(sync: TimeSync, out: &mut [u8], at: usize) -> usize
 }
 
 // Any call of time sync. The last three only look: the windows stay as they are.
+#[tactic(auto, unfolding(crate::specs::Sync::after))]
 pub fn make(
     call: SyncCall,
     args: &[u64],

@@ -1,5 +1,7 @@
 // The fields of a line as a call takes them, and the shapes of answers: the number, and values after it where that is 0. Each is put into `out`
 // from a place on, and answers where it ends.
+// Kept: the list and the place are two parameters, and no struct. The functions of `digits` take the two, and what a struct lends
+// is said in a contract by what the list holds at its entry and at its exit, which is no plainer.
 #![tactic(auto)]
 
 ghost use Rattle.std.specs.Prelude.{◌≡◌, [], ◌+◌, ◌≤◌, ◌<◌, length};
