@@ -1,25 +1,19 @@
 -- Whatever the windows hold, the half is finite and less than 2^31 in size, so that its whole part fits an i32. Assumes nothing.
-use Rattle.std.proofs.Common.{◌≡◌, ℕ, ◌+◌, ◌*◌, ◌^◌, ◌<◌, ◌≤◌, Bool, false, List, ℤ, pos, nat_abs, sym, subst, arith, lit<, lit≤, w32, SFits}
+use Rattle.std.proofs.Common.{◌≡◌, ℕ, ◌+◌, ◌*◌, ◌^◌, ◌<◌, ◌≤◌, Bool, false, List, ℤ, pos, nat_abs, sym, subst, arith, lit<, lit≤}
 use lib.Signed.{nat_abs-le}
-use mir.Facts.{sfits_to_z}
 use lib.Ieee.{Float, fin, binary32, round, div, sub}
 use lib.Ieee.Exact.{HasValue}
-use Rattle.time_sync.specs.Sums.{residue, sum_to, window_sum}
+use Rattle.time_sync.specs.Sums.{window_sum}
 use Rattle.time_sync.specs.Averages.{in_binary32, average, half}
 use Rattle.time_sync.specs.Answer.{frame_advantage}
 use Rattle.time_sync.specs.Bits.{Under31, IsWholePart}
 use Rattle.time_sync.specs.declared.TimeSync.{TimeSync}
-use Rattle.time_sync.proofs.Sums.{residue_lt}
+use Rattle.time_sync.proofs.Sums.{sum_fits}
 use Rattle.time_sync.proofs.Constants.{thirty, two}
 use Rattle.time_sync.proofs.Values.{under_of_value, whole_part}
 use Rattle.time_sync.proofs.Rounding.{unit, grain, unit_grain, unit_pos, grain_pos, Near, rounded, near_le}
 use Rattle.time_sync.proofs.Steps.{below, of-int, div_by}
 use Rattle.time_sync.proofs.Meeting.{halved, halved_le}
-
--- a window's sum is an i32
-pub sum_fits : (w : List ℤ) → SFits w32 (window_sum w)
-unfolding window_sum
-sum_fits w = sfits_to_z {w = w32} {n = residue (sum_to 30 w)} (record { fits = residue_lt (sum_to 30 w) })
 
 -- an average, by the value of the sum in binary32
 pub average_at : (w : List ℤ) (s : Bool) (a c : ℕ) → 0 < c → HasValue (in_binary32 (window_sum w)) s a c → average w ≡ round binary32 s a (30 * c)

@@ -1,5 +1,5 @@
 -- The averages, the half and the reading, from what the code's steps give. Assumes nothing.
-use Rattle.std.proofs.Common.{◌≡◌, ℕ, true, false, not, T, eqb, List, ℤ, refl, ap, T_not, eq-eqb}
+use Rattle.std.proofs.Common.{◌≡◌, ℕ, true, false, not, T, eqb, List, ℤ, refl, ap, T_not, eq-eqb, w32, to_z, of_z, to_z-of_z}
 use Prim.{absurd}
 use lib.Ieee.{Float, binary32, of_bits, of_int, div, sub, neg, eq, lt}
 use Rattle.time_sync.specs.Sums.{window_sum}
@@ -9,11 +9,12 @@ use Rattle.time_sync.specs.declared.TimeSync.{TimeSync}
 use Rattle.time_sync.specs.declared.Averages.{Averages}
 use Rattle.time_sync.specs.declared.Reading.{Reading}
 use Rattle.time_sync.specs.declared.Reading.TheVariants.{Even, Over, Under}
+use Rattle.time_sync.proofs.Sums.{sum_fits}
 use Rattle.time_sync.proofs.Constants.{bits_thirty, bits_two, bits_none}
 
-pub average_is : (w : List ℤ) (z z' : ℤ) (x : Float) → z ≡ window_sum w → z' ≡ z → x ≡ of_int binary32 z' → div binary32 x (of_bits binary32 0x41f0_0000) ≡ average w
+pub average_is : (w : List ℤ) (x : Float) → x ≡ of_int binary32 (to_z w32 (of_z w32 (window_sum w))) → div binary32 x (of_bits binary32 0x41f0_0000) ≡ average w
 unfolding average
-average_is w z z' x a b e = rw (bits_thirty, e, b, a)
+average_is w x e = let f = sum_fits w in rw (bits_thirty, e, to_z-of_z f)
 
 pub averages_are : (s : TimeSync) (x y : Float) → x ≡ average s.local → y ≡ average s.remote → ◌≡◌ {A = Averages} (record { local = x; remote = y }) (averages_of s)
 unfolding averages_of
@@ -35,6 +36,8 @@ module _ (s : TimeSync) (h : Float) (e : h ≡ half s) where
   pub reading_under : eq h (of_bits binary32 0) ≡ false → lt (of_bits binary32 0) h ≡ false → under_by (neg h) ≡ reading_of s
   unfolding reading_of
   reading_under a b = rw (← e, ← bits_none, a, b)
+
+pub ruleset halves = (average_is, averages_are, half_is, reading_even, reading_over, reading_under, to_z-of_z)
 
 apart : {X : Type 0} (m n : ℕ) → m ≡ n → T (not (eqb m n)) → X
 apart m n e t = absurd (T_not (eqb m n) t (rw (eq-eqb m n e) tt))

@@ -1,4 +1,6 @@
+pub mod Advanced
 pub mod Windows
+pub mod Said
 pub mod Sums
 pub mod Averages
 pub mod Answer

@@ -2,7 +2,7 @@
 use Rattle.std.specs.Prelude.{ℕ, ◌%◌, replicate, ℤ, pos, negsuc, slice_set}
 use Rattle.frame_info.specs.Refusal.{done, frame_below_zero}
 use Rattle.time_sync.specs.declared.TimeSync.{TimeSync}
-use Rattle.time_sync.specs.declared.Advanced.{Advanced}
+use Rattle.time_sync.specs.Advanced.{Advanced}
 
 -- a window has thirty entries
 abbrev pub window_size : ℕ

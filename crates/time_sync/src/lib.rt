@@ -1,67 +1,74 @@
 // How far this side runs ahead of the other, averaged over the last thirty frames.
 #![tactic(auto)]
 
-mod truncate;
-mod wrapping;
-
 ghost use Rattle.std.specs.Prelude.{◌≡◌};
+ghost use Rattle.frame_info.specs.Refusal.{number_in};
 ghost use Rattle.time_sync.specs.Windows.{fresh, slot_of, advanced};
+ghost use Rattle.time_sync.specs.Said.{slot_in, advanced_said};
+ghost use Rattle.time_sync.specs.Sums.{window_sum};
 ghost use Rattle.time_sync.specs.Averages.{average, averages_of, half};
 ghost use Rattle.time_sync.specs.Answer.{frame_advantage};
 ghost use Rattle.time_sync.specs.Readings.{shown, reading_of};
+
+use frame_info::refusal::Refusal;
+use std::num::{nearest_i32_to_f32, saturating_f32_to_i32};
 
 // A window's entries.
 pub const WINDOW: usize = 30;
 
 // Two windows of thirty frame advantages. Frame f has slot f mod 30 of each.
-#[derive(Clone, Copy)]
+// Kept: two lists, and not one of pairs. The definitions `fresh`, `written` and `averages_of` name each.
+#[derive(Clone, Copy, Debug, PartialEq, Eq)]
 pub struct TimeSync {
     pub local: [i32; WINDOW],
     pub remote: [i32; WINDOW],
 }
 
-// The answer of an advance: its number, and the windows after it.
-#[derive(Clone, Copy)]
-pub struct Advanced {
-    pub no: u32,
-    pub sync: TimeSync,
-}
-
 // Both averages, in binary32.
-#[derive(Clone, Copy)]
+#[derive(Clone, Copy, Debug, PartialEq)]
 pub struct Averages {
     pub local: f32,
     pub remote: f32,
 }
 
 // How the half stands to zero, with its size before truncation.
-#[derive(Clone, Copy)]
+#[derive(Clone, Copy, Debug, PartialEq)]
 pub enum Reading {
     Even,
     Over(f32),
     Under(f32),
 }
 
-// The slot of a frame: the frame mod 30, or 30, which is no slot, for a frame below 0.
-fn slot_of(frame: i32) -> usize
-    ensures { result ≡ slot_of frame }
+// The slot of a frame: the frame mod 30. A frame below 0 has none.
+fn slot_of(frame: i32) -> Option<usize>
+    ensures { result ≡ slot_in (slot_of frame) }
 {
-    let count = frame_info::count_of(frame);
-    if count == 0 {
-        return WINDOW;
+    usize::try_from(frame).ok().map(|frame| frame % WINDOW)
+}
+
+// The sum of a window's thirty entries, modulo 2^32.
+#[tactic(auto, using(crate::proofs::Sums::sums))]
+fn sum(window: &[i32; WINDOW]) -> i32
+    ensures { result ≡ window_sum window.now }
+{
+    let mut total: i32 = 0;
+    for entry in window {
+        total = total.wrapping_add(*entry);
     }
-    ((count - 1) as usize) % WINDOW
+    total
 }
 
 // The sum of a window, rounded to binary32 and divided by 30.
-fn average_of(window: [i32; WINDOW]) -> f32
-    ensures { result ≡ average window }
+#[tactic(auto, using(crate::proofs::Halves::halves))]
+fn average_of(window: &[i32; WINDOW]) -> f32
+    ensures { result ≡ average window.now }
 {
-    std::num::nearest_i32_to_f32(wrapping::sum(window)) / 30.0
+    nearest_i32_to_f32(sum(window)) / 30.0
 }
 
 impl TimeSync {
     // Windows of zeros.
+    #[tactic(auto, unfolding(crate::specs::Windows::fresh))]
     pub fn new() -> TimeSync
         ensures { result ≡ fresh }
     {
@@ -71,68 +78,72 @@ impl TimeSync {
         }
     }
 
-    // Writes the frame's slot of each window where it stands, and answers the number. A frame below 0 is refused.
+    // Writes the frame's slot of each window where it stands. A frame below 0 is refused.
     #[tactic(auto, using(crate::proofs::Windows::advances))]
-    pub fn advance(&mut self, frame: i32, local_adv: i32, remote_adv: i32) -> u32
-        ensures { (result ≡ (advanced self.old frame local_adv remote_adv).no)
+    pub fn advance(&mut self, frame: i32, local_adv: i32, remote_adv: i32) -> Result<(), Refusal>
+        ensures { (number_in result ≡ (advanced self.old frame local_adv remote_adv).no)
             × (self.new ≡ (advanced self.old frame local_adv remote_adv).sync) }
     {
-        let slot = slot_of(frame);
-        if slot < WINDOW {
-            self.local[slot] = local_adv;
-            self.remote[slot] = remote_adv;
-            return frame_info::refusal::DONE;
-        }
-        frame_info::refusal::FRAME_BELOW_ZERO
+        let Some(slot) = slot_of(frame) else {
+            return Err(Refusal::FrameBelowZero);
+        };
+        self.local[slot] = local_adv;
+        self.remote[slot] = remote_adv;
+        Ok(())
     }
 
     // The same by value: the copy that was passed is lent.
-    pub fn advance_frame(mut self, frame: i32, local_adv: i32, remote_adv: i32) -> Advanced
-        ensures { result ≡ advanced self frame local_adv remote_adv }
+    pub fn advance_frame(
+        mut self,
+        frame: i32,
+        local_adv: i32,
+        remote_adv: i32,
+    ) -> Result<TimeSync, Refusal>
+        ensures { advanced_said self result ≡ advanced self frame local_adv remote_adv }
     {
-        let no = TimeSync::advance(&mut self, frame, local_adv, remote_adv);
-        Advanced { no, sync: self }
+        self.advance(frame, local_adv, remote_adv)?;
+        Ok(self)
     }
 
     // Both averages together.
+    #[tactic(auto, using(crate::proofs::Halves::halves))]
     pub fn averages(self) -> Averages
         ensures { result ≡ averages_of self }
     {
-        let local = self.local;
-        let remote = self.remote;
         Averages {
-            local: average_of(local),
-            remote: average_of(remote),
+            local: average_of(&self.local),
+            remote: average_of(&self.remote),
         }
     }
 
     // Half of the remote average minus the local one.
+    #[tactic(auto, using(crate::proofs::Halves::halves))]
     fn meeting_point(self) -> f32
         ensures { result ≡ half self }
     {
-        let local = self.local;
-        let remote = self.remote;
-        (average_of(remote) - average_of(local)) / 2.0
+        (average_of(&self.remote) - average_of(&self.local)) / 2.0
     }
 
     // The half without its fraction.
+    #[tactic(auto, using(crate::proofs::Halves::halves), unfolding(crate::specs::Answer::frame_advantage))]
     pub fn average_frame_advantage(self) -> i32
         ensures { result ≡ frame_advantage self }
     {
-        truncate::truncated(self.meeting_point())
+        saturating_f32_to_i32(self.meeting_point())
     }
 
     // The half as it is: even, over by or under by.
+    #[tactic(auto, using(crate::proofs::Halves::halves))]
     pub fn reading(self) -> Reading
         ensures { shown result ≡ reading_of self }
     {
         let h = self.meeting_point();
         if h == 0.0 {
-            return Reading::Even;
+            Reading::Even
+        } else if h > 0.0 {
+            Reading::Over(h)
+        } else {
+            Reading::Under(-h)
         }
-        if h > 0.0 {
-            return Reading::Over(h);
-        }
-        Reading::Under(-h)
     }
 }
