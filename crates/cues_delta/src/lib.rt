@@ -4,7 +4,7 @@
 ghost use Rattle.std.specs.Prelude.{◌≡◌, ◌+◌, ◌*◌, ◌≤◌, ◌<◌, length};
 
 use compression::Unpacked;
-use cues_text::{number_arg, put_letter_value, put_number, put_number_value};
+use cues_text::{Fields, put_letter_value, put_number, put_number_value};
 use digits::{put_byte, put_pair};
 use frame_info::refusal::Refusal;
 use sheet::calls::DeltaCall;
@@ -15,11 +15,11 @@ const LENT_BYTE: u8 = 238;
 const LENT_LENGTH: u16 = 61166;
 
 // The lengths after a line's first three fields.
-fn read_lengths(args: &[u64], lengths: &mut [u16])
-    requires { length lengths.old + 3 ≤ length args.now }
+fn read_lengths(fields: &Fields, lengths: &mut [u16])
+    requires { length lengths.old + 3 ≤ 2048 }
 {
     for (i, length) in lengths.iter_mut().enumerate() {
-        *length = (number_arg(args, i + 3) % 65536) as u16;
+        *length = (fields.number(i + 3) % 65536) as u16;
     }
 }
 
@@ -86,7 +86,7 @@ fn tell_packed(packed: Result<usize, Refusal>, lent: &[u8], out: &mut [u8], at: 
 
 // Packs with these lent bytes, whole, and tells the answer.
 fn pack_into<'a>(
-    args: &[u64],
+    fields: &Fields,
     reference: &'a [u8],
     pending: &'a [u8],
     lengths: &mut [u16],
@@ -94,30 +94,30 @@ fn pack_into<'a>(
     out: &mut [u8],
     at: usize,
 ) -> usize
-    requires { (length lengths.old + 3 ≤ length args.now) × (length lent.old ≤ 4096) × (at + 16384 ≤ length out.old) }
+    requires { (length lengths.old + 3 ≤ 2048) × (length lent.old ≤ 4096) × (at + 16384 ≤ length out.old) }
     ensures { result ≤ at + 16383 }
 {
-    read_lengths(args, lengths);
+    read_lengths(fields, lengths);
     lent.fill(LENT_BYTE);
     let packed = compression::delta_encode(reference, pending, &lengths[..], lent);
     tell_packed(packed, &lent[..], out, at)
 }
 
 // pack ROOM REFERENCE PENDING LEN..
-fn pack(line: &[u8], count: u32, args: &[u64], out: &mut [u8], at: usize) -> usize
-    requires { (2048 ≤ length args.now) × (count < 2048) × (at + 16384 ≤ length out.old) }
+fn pack(line: &[u8], fields: &Fields, out: &mut [u8], at: usize) -> usize
+    requires { at + 16384 ≤ length out.old }
     ensures { result ≤ at + 16383 }
 {
     let mut first = [0u8; 4096];
     let mut second = [0u8; 4096];
     let mut lengths = [0u16; 2048];
     let mut lent = [0u8; 4096];
-    let room = number_arg(args, 0).min(4096) as usize;
-    let few = count.saturating_sub(3) as usize;
+    let room = fields.number(0).min(4096) as usize;
+    let few = fields.count.saturating_sub(3) as usize;
     let n = field_bytes(line, 2, &mut first);
     let m = field_bytes(line, 3, &mut second);
     pack_into(
-        args,
+        fields,
         &first[..n],
         &second[..m],
         &mut lengths[..few],
@@ -169,16 +169,16 @@ fn unpack_into(
 }
 
 // unpack ROOM LENS REFERENCE PACKET
-fn unpack(line: &[u8], args: &[u64], out: &mut [u8], at: usize) -> usize
-    requires { (2048 ≤ length args.now) × (at + 16384 ≤ length out.old) }
+fn unpack(line: &[u8], fields: &Fields, out: &mut [u8], at: usize) -> usize
+    requires { at + 16384 ≤ length out.old }
     ensures { result ≤ at + 16383 }
 {
     let mut first = [0u8; 4096];
     let mut second = [0u8; 4096];
     let mut lengths = [0u16; 512];
     let mut lent = [0u8; 4096];
-    let room = number_arg(args, 0).min(4096) as usize;
-    let few = number_arg(args, 1).min(512) as usize;
+    let room = fields.number(0).min(4096) as usize;
+    let few = fields.number(1).min(512) as usize;
     let n = field_bytes(line, 3, &mut first);
     let m = field_bytes(line, 4, &mut second);
     unpack_into(
@@ -192,19 +192,12 @@ fn unpack(line: &[u8], args: &[u64], out: &mut [u8], at: usize) -> usize
 }
 
 // Either call.
-pub fn make(
-    call: DeltaCall,
-    line: &[u8],
-    count: u32,
-    args: &[u64],
-    out: &mut [u8],
-    at: usize,
-) -> usize
-    requires { (2048 ≤ length args.now) × (count < 2048) × (at + 16384 ≤ length out.old) }
+pub fn make(call: DeltaCall, line: &[u8], fields: &Fields, out: &mut [u8], at: usize) -> usize
+    requires { at + 16384 ≤ length out.old }
     ensures { result ≤ at + 16383 }
 {
     match call {
-        DeltaCall::Pack => pack(line, count, args, out, at),
-        DeltaCall::Unpack => unpack(line, args, out, at),
+        DeltaCall::Pack => pack(line, fields, out, at),
+        DeltaCall::Unpack => unpack(line, fields, out, at),
     }
 }

@@ -1,47 +1,42 @@
 // The calls of the layer in force, by value: each makes its call and tells its answer. One that is refused leaves the layer as it was.
 #![tactic(auto, using(crate::proofs::Keeping::keeping))]
 
-mod fields;
+mod statuses;
 mod tell;
 
 ghost use Rattle.std.specs.Prelude.{◌+◌, ◌≤◌, ◌<◌, length};
 ghost use Rattle.sync_layer_value.specs.Value.{Whole};
 
 use console::Console;
-use cues_text::{
-    Told, frame_arg, number_arg, tell_fills, tell_frame, tell_number, tell_refusal, tell_setup,
-};
+use cues_text::{Fields, Told, tell_fills, tell_frame, tell_number, tell_refusal, tell_setup};
 use frame_info::PlayerInput;
 use sheet::calls::LayerCall;
 use sync_layer_value::SyncLayer;
 
 // layer LIMIT PREDICTOR DELAY..
-fn open(count: u32, args: &[u64], out: &mut [u8], at: usize) -> Told<SyncLayer>
-    requires { (2048 ≤ length args.now) × (count < 2048) × (at + 192 ≤ length out.old) }
+fn open(fields: &Fields, out: &mut [u8], at: usize) -> Told<SyncLayer>
+    requires { at + 192 ≤ length out.old }
     ensures { Whole result.part × (result.at ≤ at + 191) }
 {
     let mut delays = [0u32; 2048];
-    let n = count.saturating_sub(2) as usize;
-    fields::take_delays(args, 2, n, &mut delays);
-    let opened = SyncLayer::new(number_arg(args, 0), number_arg(args, 1), &delays[..n]);
+    let n = fields.numbers(2, &mut delays);
+    let opened = SyncLayer::new(fields.number(0), fields.number(1), &delays[..n]);
     Told {
         part: opened.layer,
         at: tell_setup(out, at, opened.refused),
     }
 }
 
-fn input_of(args: &[u64]) -> PlayerInput
-    requires { 2048 ≤ length args.now }
-{
-    PlayerInput::new(frame_arg(args, 1), number_arg(args, 2))
+fn input_of(fields: &Fields) -> PlayerInput {
+    PlayerInput::new(fields.frame(1), fields.number(2))
 }
 
 // l.local SEAT FRAME WORD
-fn local(args: &[u64], layer: SyncLayer, out: &mut [u8], at: usize) -> Told<SyncLayer>
-    requires { Whole layer × (2048 ≤ length args.now) × (at + 192 ≤ length out.old) }
+fn local(fields: &Fields, layer: SyncLayer, out: &mut [u8], at: usize) -> Told<SyncLayer>
+    requires { Whole layer × (at + 192 ≤ length out.old) }
     ensures { Whole result.part × (result.at ≤ at + 191) }
 {
-    match layer.add_local_input(number_arg(args, 0), input_of(args)) {
+    match layer.add_local_input(fields.number(0), input_of(fields)) {
         Ok(placed) => Told {
             part: placed.layer,
             at: tell_frame(out, at, placed.place),
@@ -54,11 +49,11 @@ fn local(args: &[u64], layer: SyncLayer, out: &mut [u8], at: usize) -> Told<Sync
 }
 
 // l.remote SEAT FRAME WORD
-fn remote(args: &[u64], layer: SyncLayer, out: &mut [u8], at: usize) -> Told<SyncLayer>
-    requires { Whole layer × (2048 ≤ length args.now) × (at + 192 ≤ length out.old) }
+fn remote(fields: &Fields, layer: SyncLayer, out: &mut [u8], at: usize) -> Told<SyncLayer>
+    requires { Whole layer × (at + 192 ≤ length out.old) }
     ensures { Whole result.part × (result.at ≤ at + 191) }
 {
-    match layer.add_remote_input(number_arg(args, 0), input_of(args)) {
+    match layer.add_remote_input(fields.number(0), input_of(fields)) {
         Ok(placed) => Told {
             part: placed.layer,
             at: tell_frame(out, at, placed.place),
@@ -71,11 +66,11 @@ fn remote(args: &[u64], layer: SyncLayer, out: &mut [u8], at: usize) -> Told<Syn
 }
 
 // l.delay SEAT DELAY
-fn delay(args: &[u64], layer: SyncLayer, out: &mut [u8], at: usize) -> Told<SyncLayer>
-    requires { Whole layer × (2048 ≤ length args.now) × (at + 192 ≤ length out.old) }
+fn delay(fields: &Fields, layer: SyncLayer, out: &mut [u8], at: usize) -> Told<SyncLayer>
+    requires { Whole layer × (at + 192 ≤ length out.old) }
     ensures { Whole result.part × (result.at ≤ at + 191) }
 {
-    match layer.set_frame_delay(number_arg(args, 0), number_arg(args, 1)) {
+    match layer.set_frame_delay(fields.number(0), fields.number(1)) {
         Ok(fills) => Told {
             part: fills.layer,
             at: tell_fills(out, at, fills.first, fills.count, fills.word),
@@ -99,11 +94,11 @@ fn reset(layer: SyncLayer, out: &mut [u8], at: usize) -> Told<SyncLayer>
 }
 
 // l.confirm FRAME FLAG
-fn confirm(args: &[u64], layer: SyncLayer, out: &mut [u8], at: usize) -> Told<SyncLayer>
-    requires { Whole layer × (2048 ≤ length args.now) × (at + 192 ≤ length out.old) }
+fn confirm(fields: &Fields, layer: SyncLayer, out: &mut [u8], at: usize) -> Told<SyncLayer>
+    requires { Whole layer × (at + 192 ≤ length out.old) }
     ensures { Whole result.part × (result.at ≤ at + 191) }
 {
-    match layer.set_last_confirmed_frame(frame_arg(args, 0), number_arg(args, 1) != 0) {
+    match layer.set_last_confirmed_frame(fields.frame(0), fields.number(1) != 0) {
         Ok(part) => Told {
             part: part,
             at: tell_number(out, at, 0),
@@ -116,14 +111,14 @@ fn confirm(args: &[u64], layer: SyncLayer, out: &mut [u8], at: usize) -> Told<Sy
 }
 
 // l.save HEAD KIND SEAL
-fn save(args: &[u64], layer: SyncLayer, out: &mut [u8], at: usize) -> Told<SyncLayer>
-    requires { Whole layer × (2048 ≤ length args.now) × (at + 192 ≤ length out.old) }
+fn save(fields: &Fields, layer: SyncLayer, out: &mut [u8], at: usize) -> Told<SyncLayer>
+    requires { Whole layer × (at + 192 ≤ length out.old) }
     ensures { Whole result.part × (result.at ≤ at + 191) }
 {
     let state = Console {
-        head: number_arg(args, 0),
-        kind: number_arg(args, 1),
-        seal: number_arg(args, 2),
+        head: fields.number(0),
+        kind: fields.number(1),
+        seal: fields.number(2),
     };
     Told {
         part: layer.save_current_state(state),
@@ -132,11 +127,11 @@ fn save(args: &[u64], layer: SyncLayer, out: &mut [u8], at: usize) -> Told<SyncL
 }
 
 // l.load FRAME
-fn load(args: &[u64], layer: SyncLayer, out: &mut [u8], at: usize) -> Told<SyncLayer>
-    requires { Whole layer × (2048 ≤ length args.now) × (at + 192 ≤ length out.old) }
+fn load(fields: &Fields, layer: SyncLayer, out: &mut [u8], at: usize) -> Told<SyncLayer>
+    requires { Whole layer × (at + 192 ≤ length out.old) }
     ensures { Whole result.part × (result.at ≤ at + 191) }
 {
-    match layer.load_frame(frame_arg(args, 0)) {
+    match layer.load_frame(fields.frame(0)) {
         Ok(loaded) => Told {
             part: loaded.layer,
             at: tell::tell_state(out, at, loaded.state),
@@ -166,14 +161,14 @@ fn advance(layer: SyncLayer, out: &mut [u8], at: usize) -> Told<SyncLayer>
 }
 
 // l.request STATUS..
-fn request(count: u32, args: &[u64], layer: SyncLayer, out: &mut [u8], at: usize) -> Told<SyncLayer>
-    requires { Whole layer × (2048 ≤ length args.now) × (count < 2048) × (at + 192 ≤ length out.old) }
+fn request(fields: &Fields, layer: SyncLayer, out: &mut [u8], at: usize) -> Told<SyncLayer>
+    requires { Whole layer × (at + 192 ≤ length out.old) }
     ensures { Whole result.part × (result.at ≤ at + 191) }
 {
     let mut gone = [false; 2048];
     let mut lasts = [0i32; 2048];
-    let n = count as usize;
-    fields::take_statuses(args, 0, n, &mut gone, &mut lasts);
+    let n = fields.count as usize;
+    statuses::take(fields, 0, n, &mut gone, &mut lasts);
     let seats = layer.state.num_players as usize;
     match layer.synchronized_inputs(&gone[..n], &lasts[..n]) {
         Ok(served) => Told {
@@ -188,15 +183,15 @@ fn request(count: u32, args: &[u64], layer: SyncLayer, out: &mut [u8], at: usize
 }
 
 // l.confirmed FRAME STATUS..; the layer stays as it is, here and in all that follow.
-fn confirmed(count: u32, args: &[u64], layer: SyncLayer, out: &mut [u8], at: usize) -> usize
-    requires { Whole layer × (2048 ≤ length args.now) × (count < 2048) × (at + 192 ≤ length out.old) }
+fn confirmed(fields: &Fields, layer: SyncLayer, out: &mut [u8], at: usize) -> usize
+    requires { Whole layer × (at + 192 ≤ length out.old) }
     ensures { result ≤ at + 191 }
 {
     let mut gone = [false; 2048];
     let mut lasts = [0i32; 2048];
-    let n = count.saturating_sub(1) as usize;
-    fields::take_statuses(args, 1, n, &mut gone, &mut lasts);
-    match layer.confirmed_inputs(&gone[..n], &lasts[..n], frame_arg(args, 0)) {
+    let n = fields.count.saturating_sub(1) as usize;
+    statuses::take(fields, 1, n, &mut gone, &mut lasts);
+    match layer.confirmed_inputs(&gone[..n], &lasts[..n], fields.frame(0)) {
         Ok(found) => {
             let n = layer.state.num_players as usize;
             tell::tell_found(out, at, &found.frames, &found.inputs, n)
@@ -214,22 +209,22 @@ fn consistent(layer: SyncLayer, out: &mut [u8], at: usize) -> usize
 }
 
 // l.saved FRAME
-fn saved(args: &[u64], layer: SyncLayer, out: &mut [u8], at: usize) -> usize
-    requires { Whole layer × (2048 ≤ length args.now) × (at + 192 ≤ length out.old) }
+fn saved(fields: &Fields, layer: SyncLayer, out: &mut [u8], at: usize) -> usize
+    requires { Whole layer × (at + 192 ≤ length out.old) }
     ensures { result ≤ at + 191 }
 {
-    match layer.saved_state_by_frame(frame_arg(args, 0)) {
+    match layer.saved_state_by_frame(fields.frame(0)) {
         Ok(state) => tell::tell_state(out, at, state),
         Err(refusal) => tell_refusal(out, at, refusal),
     }
 }
 
 // l.latest START END
-fn latest(args: &[u64], layer: SyncLayer, out: &mut [u8], at: usize) -> usize
-    requires { Whole layer × (2048 ≤ length args.now) × (at + 192 ≤ length out.old) }
+fn latest(fields: &Fields, layer: SyncLayer, out: &mut [u8], at: usize) -> usize
+    requires { Whole layer × (at + 192 ≤ length out.old) }
     ensures { result ≤ at + 191 }
 {
-    match layer.latest_saved_state_in_range(frame_arg(args, 0), frame_arg(args, 1)) {
+    match layer.latest_saved_state_in_range(fields.frame(0), fields.frame(1)) {
         Ok(frame) => tell_frame(out, at, frame),
         Err(refusal) => tell_refusal(out, at, refusal),
     }
@@ -248,30 +243,29 @@ fn now(layer: SyncLayer, out: &mut [u8], at: usize) -> usize
 // Any call of the layer, with as many fields as its line had. The last ones only look.
 pub fn make(
     call: LayerCall,
-    count: u32,
-    args: &[u64],
+    fields: &Fields,
     layer: SyncLayer,
     out: &mut [u8],
     at: usize,
 ) -> Told<SyncLayer>
-    requires { Whole layer × (2048 ≤ length args.now) × (count < 2048) × (at + 192 ≤ length out.old) }
+    requires { Whole layer × (at + 192 ≤ length out.old) }
     ensures { Whole result.part × (result.at ≤ at + 191) }
 {
     let looked = match call {
-        LayerCall::Open => return open(count, args, out, at),
-        LayerCall::Local => return local(args, layer, out, at),
-        LayerCall::Remote => return remote(args, layer, out, at),
-        LayerCall::Save => return save(args, layer, out, at),
-        LayerCall::Load => return load(args, layer, out, at),
+        LayerCall::Open => return open(fields, out, at),
+        LayerCall::Local => return local(fields, layer, out, at),
+        LayerCall::Remote => return remote(fields, layer, out, at),
+        LayerCall::Save => return save(fields, layer, out, at),
+        LayerCall::Load => return load(fields, layer, out, at),
         LayerCall::Advance => return advance(layer, out, at),
-        LayerCall::Request => return request(count, args, layer, out, at),
-        LayerCall::Confirm => return confirm(args, layer, out, at),
-        LayerCall::Delay => return delay(args, layer, out, at),
+        LayerCall::Request => return request(fields, layer, out, at),
+        LayerCall::Confirm => return confirm(fields, layer, out, at),
+        LayerCall::Delay => return delay(fields, layer, out, at),
         LayerCall::Reset => return reset(layer, out, at),
-        LayerCall::Confirmed => confirmed(count, args, layer, out, at),
+        LayerCall::Confirmed => confirmed(fields, layer, out, at),
         LayerCall::Consistent => consistent(layer, out, at),
-        LayerCall::Saved => saved(args, layer, out, at),
-        LayerCall::Latest => latest(args, layer, out, at),
+        LayerCall::Saved => saved(fields, layer, out, at),
+        LayerCall::Latest => latest(fields, layer, out, at),
         LayerCall::Now => now(layer, out, at),
     };
     Told {

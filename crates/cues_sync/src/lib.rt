@@ -6,9 +6,7 @@ ghost use Rattle.sheet.specs.Said.{number_of_sync_call};
 ghost use Rattle.time_sync.specs.Windows.{fresh};
 ghost use Rattle.cues_sync.specs.Sync as windows;
 
-use cues_text::{
-    Told, frame_arg, put_number, put_word_value, tell_frame, tell_number, tell_refusal,
-};
+use cues_text::{Fields, Told, put_number, put_word_value, tell_frame, tell_number, tell_refusal};
 use digits::put_text;
 use sheet::calls::SyncCall;
 use time_sync::{Reading, TimeSync};
@@ -23,11 +21,11 @@ fn open(out: &mut [u8], at: usize) -> Told<TimeSync>
     }
 }
 
-fn advance(args: &[u64], sync: TimeSync, out: &mut [u8], at: usize) -> Told<TimeSync>
-    requires { (2048 ≤ length args.now) × (at + 64 ≤ length out.old) }
-    ensures { (result.part ≡ windows.advanced_by args.now sync) × (result.at ≤ at + 63) }
+fn advance(fields: &Fields, sync: TimeSync, out: &mut [u8], at: usize) -> Told<TimeSync>
+    requires { at + 64 ≤ length out.old }
+    ensures { (result.part ≡ windows.advanced_by fields.now.values.now sync) × (result.at ≤ at + 63) }
 {
-    match sync.advance_frame(frame_arg(args, 0), frame_arg(args, 1), frame_arg(args, 2)) {
+    match sync.advance_frame(fields.frame(0), fields.frame(1), fields.frame(2)) {
         Ok(part) => Told {
             part,
             at: tell_number(out, at, 0),
@@ -82,17 +80,17 @@ fn reading(sync: TimeSync, out: &mut [u8], at: usize) -> usize
 #[tactic(auto, unfolding(crate::specs::Sync::after))]
 pub fn make(
     call: SyncCall,
-    args: &[u64],
+    fields: &Fields,
     sync: TimeSync,
     out: &mut [u8],
     at: usize,
 ) -> Told<TimeSync>
-    requires { (2048 ≤ length args.now) × (at + 64 ≤ length out.old) }
-    ensures { (result.part ≡ windows.after (number_of_sync_call call) args.now sync) × (result.at ≤ at + 63) }
+    requires { at + 64 ≤ length out.old }
+    ensures { (result.part ≡ windows.after (number_of_sync_call call) fields.now.values.now sync) × (result.at ≤ at + 63) }
 {
     let looked = match call {
         SyncCall::Open => return open(out, at),
-        SyncCall::Advance => return advance(args, sync, out, at),
+        SyncCall::Advance => return advance(fields, sync, out, at),
         SyncCall::Average => average(sync, out, at),
         SyncCall::Averages => averages(sync, out, at),
         SyncCall::Reading => reading(sync, out, at),

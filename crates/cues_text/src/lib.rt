@@ -4,15 +4,17 @@
 // is said in a contract by what the list holds at its entry and at its exit, which is no plainer.
 #![tactic(auto)]
 
+mod fields;
+
 ghost use Rattle.std.specs.Prelude.{◌≡◌, [], ◌+◌, ◌≤◌, ◌<◌, length};
 ghost use Rattle.frame_info.specs.Refusal.{done, number_of, number_given};
 ghost use Rattle.digits.specs.Digits.{decimal_text};
 ghost use Rattle.cues_text.specs.Text as text;
 ghost use Rattle.cues_text.specs.Text.{Puts};
-ghost use Rattle.cues_text.specs.Args.{low_of, number_arg, frame_arg};
 
 use console::Console;
 use digits::{put_byte, put_decimal, put_signed, put_word};
+pub use fields::{Fields, low};
 use frame_info::refusal::Refusal;
 
 // What a call leaves: the part of the program's world that it was made on, and where its answer ends.
@@ -20,27 +22,6 @@ use frame_info::refusal::Refusal;
 pub struct Told<T> {
     pub part: T,
     pub at: usize,
-}
-
-// A field's value: the 32 bits that it stands for.
-pub fn low(value: u64) -> u32
-    ensures { result ≡ low_of value }
-{
-    (value % 4294967296) as u32
-}
-
-pub fn number_arg(args: &[u64], field: usize) -> u32
-    requires { field < length args.now }
-    ensures { result ≡ number_arg args.now field }
-{
-    low(args[field])
-}
-
-pub fn frame_arg(args: &[u64], field: usize) -> i32
-    requires { field < length args.now }
-    ensures { result ≡ frame_arg args.now field }
-{
-    low(args[field]).cast_signed()
 }
 
 // A number, with how far it reaches at most.

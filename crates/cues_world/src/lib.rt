@@ -11,6 +11,7 @@ ghost use Rattle.cues_sync.specs.Sync.{after};
 ghost use Rattle.cues_world.specs.Force as force;
 ghost use Rattle.cues_world.specs.Force.{Whole, Idle};
 
+use cues_text::Fields;
 use desk_value::Desk;
 use input_queue_value::InputQueue;
 use sheet::Line;
@@ -51,12 +52,12 @@ fn end_answer(out: &mut [u8], at: usize) -> usize
 }
 
 // A call of each part, which alone is new after it.
-fn queue_line(call: QueueCall, args: &[u64], world: World, out: &mut [u8]) -> World
-    requires { (2048 ≤ length args.now) × Whole world × (world.filled + 16385 ≤ length out.old) }
+fn queue_line(call: QueueCall, fields: &Fields, world: World, out: &mut [u8]) -> World
+    requires { Whole world × (world.filled + 16385 ≤ length out.old) }
     ensures { Whole result × (result.filled ≤ world.filled + 16384)
-        × (result ≡ force.with_queue world (queue_after (number_of_queue_call call) args.now world.queue) result.filled) }
+        × (result ≡ force.with_queue world (queue_after (number_of_queue_call call) fields.now.values.now world.queue) result.filled) }
 {
-    let told = cues_queue::make(call, args, world.queue, out, world.filled);
+    let told = cues_queue::make(call, fields, world.queue, out, world.filled);
     World {
         queue: told.part,
         filled: end_answer(out, told.at),
@@ -64,12 +65,12 @@ fn queue_line(call: QueueCall, args: &[u64], world: World, out: &mut [u8]) -> Wo
     }
 }
 
-fn layer_line(call: LayerCall, count: u32, args: &[u64], world: World, out: &mut [u8]) -> World
-    requires { (2048 ≤ length args.now) × (count < 2048) × Whole world × (world.filled + 16385 ≤ length out.old) }
+fn layer_line(call: LayerCall, fields: &Fields, world: World, out: &mut [u8]) -> World
+    requires { Whole world × (world.filled + 16385 ≤ length out.old) }
     ensures { Whole result × (result.filled ≤ world.filled + 16384)
         × (result ≡ force.with_layer world result.layer result.filled) }
 {
-    let told = cues_layer::make(call, count, args, world.layer, out, world.filled);
+    let told = cues_layer::make(call, fields, world.layer, out, world.filled);
     World {
         layer: told.part,
         filled: end_answer(out, told.at),
@@ -77,12 +78,12 @@ fn layer_line(call: LayerCall, count: u32, args: &[u64], world: World, out: &mut
     }
 }
 
-fn sync_line(call: SyncCall, args: &[u64], world: World, out: &mut [u8]) -> World
-    requires { (2048 ≤ length args.now) × Whole world × (world.filled + 16385 ≤ length out.old) }
+fn sync_line(call: SyncCall, fields: &Fields, world: World, out: &mut [u8]) -> World
+    requires { Whole world × (world.filled + 16385 ≤ length out.old) }
     ensures { Whole result × (result.filled ≤ world.filled + 16384)
-        × (result ≡ force.with_sync world (after (number_of_sync_call call) args.now world.sync) result.filled) }
+        × (result ≡ force.with_sync world (after (number_of_sync_call call) fields.now.values.now world.sync) result.filled) }
 {
-    let told = cues_sync::make(call, args, world.sync, out, world.filled);
+    let told = cues_sync::make(call, fields, world.sync, out, world.filled);
     World {
         sync: told.part,
         filled: end_answer(out, told.at),
@@ -90,31 +91,24 @@ fn sync_line(call: SyncCall, args: &[u64], world: World, out: &mut [u8]) -> Worl
     }
 }
 
-fn delta_line(
-    call: DeltaCall,
-    line: &[u8],
-    count: u32,
-    args: &[u64],
-    world: World,
-    out: &mut [u8],
-) -> World
-    requires { (2048 ≤ length args.now) × (count < 2048) × Whole world × (world.filled + 16385 ≤ length out.old) }
+fn delta_line(call: DeltaCall, line: &[u8], fields: &Fields, world: World, out: &mut [u8]) -> World
+    requires { Whole world × (world.filled + 16385 ≤ length out.old) }
     ensures { Whole result × (result.filled ≤ world.filled + 16384)
         × (result ≡ force.with_filled world result.filled) }
 {
-    let end = cues_delta::make(call, line, count, args, out, world.filled);
+    let end = cues_delta::make(call, line, fields, out, world.filled);
     World {
         filled: end_answer(out, end),
         ..world
     }
 }
 
-fn desk_line(call: DeskCall, count: u32, args: &[u64], world: World, out: &mut [u8]) -> World
-    requires { (2048 ≤ length args.now) × (count < 2048) × Whole world × (world.filled + 16385 ≤ length out.old) }
+fn desk_line(call: DeskCall, fields: &Fields, world: World, out: &mut [u8]) -> World
+    requires { Whole world × (world.filled + 16385 ≤ length out.old) }
     ensures { Whole result × (result.filled ≤ world.filled + 16384)
         × (result ≡ force.with_desk world result.desk result.filled) }
 {
-    let told = cues_desk::make(call, count, args, world.desk, out, world.filled);
+    let told = cues_desk::make(call, fields, world.desk, out, world.filled);
     World {
         desk: told.part,
         filled: end_answer(out, told.at),
@@ -123,16 +117,16 @@ fn desk_line(call: DeskCall, count: u32, args: &[u64], world: World, out: &mut [
 }
 
 // A call of any part.
-fn make(call: Call, count: u32, line: &[u8], args: &[u64], world: World, out: &mut [u8]) -> World
-    requires { (2048 ≤ length args.now) × (count < 2048) × Whole world × (world.filled + 16385 ≤ length out.old) }
+fn make(call: Call, line: &[u8], fields: &Fields, world: World, out: &mut [u8]) -> World
+    requires { Whole world × (world.filled + 16385 ≤ length out.old) }
     ensures { Whole result × (result.filled ≤ world.filled + 16384) }
 {
     match call {
-        Call::Queue(call) => queue_line(call, args, world, out),
-        Call::Layer(call) => layer_line(call, count, args, world, out),
-        Call::Sync(call) => sync_line(call, args, world, out),
-        Call::Delta(call) => delta_line(call, line, count, args, world, out),
-        Call::Desk(call) => desk_line(call, count, args, world, out),
+        Call::Queue(call) => queue_line(call, fields, world, out),
+        Call::Layer(call) => layer_line(call, fields, world, out),
+        Call::Sync(call) => sync_line(call, fields, world, out),
+        Call::Delta(call) => delta_line(call, line, fields, world, out),
+        Call::Desk(call) => desk_line(call, fields, world, out),
     }
 }
 
@@ -149,6 +143,12 @@ pub fn answer(line: &[u8], args: &mut [u64], world: World, out: &mut [u8]) -> Wo
             filled: digits::put_text(out, world.filled, b"bad\n"),
             ..world
         },
-        Line::Asks { call, count } => make(call, count, line, &args[..], world, out),
+        Line::Asks { call, count } => {
+            let fields = Fields {
+                values: &args[..],
+                count,
+            };
+            make(call, line, &fields, world, out)
+        }
     }
 }
