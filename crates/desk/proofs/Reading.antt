@@ -14,7 +14,7 @@ use lib.Dec.{ltb, eqb}
 use borrow.Author.Tests.{lt-ltb, le-leb}
 use Rattle.frame_info.proofs.Split.{split_eqb, split_ltb, split_leb}
 use Rattle.digits.specs.Digits.{word_text, word_of}
-use Rattle.digits.specs.declared.Number.TheVariants.{Of}
+use Rattle.std.specs.Prelude.{Some}
 use Rattle.digits.proofs.Bounds.{word_eight}
 use Rattle.digits.proofs.RoundTrip.{word_back}
 use Rattle.desk.specs.declared.DeskState.{DeskState}
@@ -92,5 +92,5 @@ module _ (f : ℕ) (row : List ℕ) (seal k : ℕ) (h : k < length row + 2) wher
       let e : k < length (numbers_of f row seal) = omega (arith, length-append row (seal ∷ [])) in
       rw (line_spaced f row seal, add-one) at (spaced_field (numbers_of f row seal) k (10 ∷ []) e)
 
-  pub line_back : get_or (numbers_of f row seal) k 0 < 2 ^ 32 → word_of (take 8 (drop (9 * k) (line_of f row seal))) ≡ Of (get_or (numbers_of f row seal) k 0)
+  pub line_back : get_or (numbers_of f row seal) k 0 < 2 ^ 32 → word_of (take 8 (drop (9 * k) (line_of f row seal))) ≡ Some (get_or (numbers_of f row seal) k 0)
   line_back g = rw line_field (word_back (get_or (numbers_of f row seal) k 0) g)

@@ -8,15 +8,22 @@
 // writes only where it is done, but for `desk_setup`, which leaves a fresh desk where it refuses by
 // 1. What a caller in C still owes is that a pointer is good for its length, that no two lists
 // overlap, and a desk that came from `desk_setup` and the calls after it.
+//
+// Kept: the C interface has no struct, no enum and no `Result`, so that each exported function takes
+// plain lists and numbers, and answers a number.
 #![tactic(auto)]
 
 pub mod layer;
 mod room;
 
 ghost use Rattle.std.specs.Prelude.{◌≡◌, true, [], ◌≤◌, length, get_or};
+ghost use Rattle.frame_info.specs.Refusal.{number_in};
 ghost use Rattle.sync_layer.specs.Lists.{write_row};
 ghost use Rattle.sync_layer.specs.Seats.{max_seats};
 ghost use Rattle.sync_layer.specs.Whole.{SlotRoom};
+ghost use Rattle.desk.specs.Calls as calls;
+ghost use Rattle.desk.specs.Desk.{desk_of};
+ghost use Rattle.desk.specs.Said.{shown_said};
 ghost use Rattle.desk.specs.Whole as bounds;
 ghost use Rattle.desk_face.specs.Face as face;
 ghost use Rattle.desk_face.specs.Lists.{state_words, desk_at, set_desk, set_report, set_console};
@@ -24,9 +31,22 @@ ghost use Rattle.desk_face.specs.Lists.{state_words, desk_at, set_desk, set_repo
 use console::Console;
 use desk::DeskState;
 use frame_info::count_of;
-use frame_info::refusal::NO_ROOM_FOR_BYTES;
+use frame_info::refusal::Refusal;
 use sync_layer::MAX_SEATS;
 
+// A call's answer, as a caller in C gets it: 0 where it is done.
+fn number(answer: Result<(), Refusal>) -> u32
+    ensures { result ≡ number_in answer }
+{
+    match answer {
+        Ok(()) => 0,
+        Err(refusal) => refusal.number(),
+    }
+}
+
+// Kept: the C interface has no struct, since C knows no layout of one. Its numbers stand in a list,
+// each in its place, where the next four functions read and write them.
+#[tactic(auto, unfolding(crate::specs::Lists::desk_at))]
 fn desk_at(state: &[u32]) -> DeskState
     requires { state_words ≤ length state.now }
     ensures { result ≡ desk_at state.now }
@@ -44,20 +64,21 @@ fn desk_at(state: &[u32]) -> DeskState
     }
 }
 
+#[tactic(auto, unfolding(crate::specs::Lists::set_desk, sync_layer::specs::Lists::write_row))]
 fn set_desk(state: &mut [u32], desk: DeskState)
     requires { state_words ≤ length state.old }
     ensures { state.new ≡ set_desk state.old desk }
 {
-    let console = desk.console;
     state[0] = desk.seats;
     state[1] = desk.limit;
     state[2] = desk.predictor;
     state[3] = desk.current;
-    state[4] = console.head;
-    state[5] = console.kind;
-    state[6] = console.seal;
+    state[4] = desk.console.head;
+    state[5] = desk.console.kind;
+    state[6] = desk.console.seal;
 }
 
+#[tactic(auto, unfolding(crate::specs::Lists::set_report))]
 fn set_report(said: &mut [u32], report: desk::Report)
     requires { 2 ≤ length said.old }
     ensures { said.new ≡ set_report said.old report }
@@ -66,6 +87,7 @@ fn set_report(said: &mut [u32], report: desk::Report)
     said[1] = report.count;
 }
 
+#[tactic(auto, unfolding(crate::specs::Lists::set_console))]
 fn set_console(said: &mut [u32], console: Console)
     requires { 3 ≤ length said.old }
     ensures { said.new ≡ set_console said.old console }
@@ -80,10 +102,32 @@ fn put_row(out: &mut [u32], row: &[u32; MAX_SEATS], n: usize)
     requires { (n ≤ max_seats) × (n ≤ length out.old) }
     ensures { out.new ≡ write_row n out.old 0 (λ i. get_or row.now i 0) }
 {
-    let mut i: usize = 0;
-    while i < n {
-        out[i] = row[i];
-        i += 1;
+    out[..n].copy_from_slice(&row[..n]);
+}
+
+// Each call stands twice below: within it answers a `Result`, and exported its number.
+//
+// A setup that refuses by 1 leaves a fresh desk all the same.
+#[tactic(auto, unfolding(crate::specs::Face::setup_room, crate::specs::Face::setup_on))]
+fn setup(
+    state: &mut [u32],
+    seats: &mut [u32],
+    slots: &mut [u32],
+    limit: u32,
+    predictor: u32,
+    delays: &[u32],
+) -> Result<(), Refusal>
+    ensures { face.left (number_in result) (face.lent state.new seats.new [] slots.new [] [] [])
+        ≡ face.setup_leaves limit predictor delays.now (face.lent state.old seats.old [] slots.old [] [] []) }
+{
+    if !room::for_setup(state.len(), seats.len(), slots.len()) {
+        return Err(Refusal::NoRoomForBytes);
+    }
+    let o = desk::setup(seats, slots, limit, predictor, delays);
+    set_desk(state, o.desk);
+    match o.refused {
+        Some(refusal) => Err(refusal),
+        None => Ok(()),
     }
 }
 
@@ -98,13 +142,30 @@ pub fn desk_setup(
     ensures { face.left result (face.lent state.new seats.new [] slots.new [] [] [])
         ≡ face.setup_leaves limit predictor delays.now (face.lent state.old seats.old [] slots.old [] [] []) }
 {
-    if !room::for_setup(state.len(), seats.len(), slots.len()) {
-        return NO_ROOM_FOR_BYTES;
+    number(setup(state, seats, slots, limit, predictor, delays))
+}
+
+#[tactic(auto, using(frame_info::proofs::Refusals::number_some), unfolding(crate::specs::Face::take_room, crate::specs::Face::take_on, crate::specs::Face::does, desk::specs::Calls::take_says, desk::specs::Desk::take))]
+fn take(
+    state: &[u32],
+    seats: &mut [u32],
+    words: &mut [u32],
+    seat: u32,
+    frame: i32,
+    word: u32,
+    said: &mut [u32],
+) -> Result<(), Refusal>
+    requires { face.take_fits (face.lent state.now seats.old words.old [] [] [] said.old) ≡ true → bounds.Seated (desk_at state.now) seats.old }
+    ensures { face.left (number_in result) (face.lent state.now seats.new words.new [] [] [] said.new)
+        ≡ face.take_leaves seat frame word (face.lent state.now seats.old words.old [] [] [] said.old) }
+{
+    if !room::for_take(state.len(), seats.len(), words.len(), said.len()) {
+        return Err(Refusal::NoRoomForBytes);
     }
-    let o = desk::setup(seats, slots, limit, predictor, delays);
-    let desk = o.desk;
-    set_desk(state, desk);
-    o.no
+    let desk = desk_at(state);
+    let place = desk::take(seats, words, desk, seat, frame, word)?;
+    said[0] = count_of(place);
+    Ok(())
 }
 
 // `said` has the place.
@@ -121,16 +182,36 @@ pub fn desk_take(
     ensures { face.left result (face.lent state.now seats.new words.new [] [] [] said.new)
         ≡ face.take_leaves seat frame word (face.lent state.now seats.old words.old [] [] [] said.old) }
 {
-    if !room::for_take(state.len(), seats.len(), words.len(), said.len()) {
-        return NO_ROOM_FOR_BYTES;
+    number(take(state, seats, words, seat, frame, word, said))
+}
+
+#[tactic(auto, unfolding(crate::specs::Face::settle_room, crate::specs::Face::settle_on))]
+fn settle(
+    state: &mut [u32],
+    seats: &mut [u32],
+    words: &[u32],
+    slots: &mut [u32],
+    said: &mut [u32],
+) -> Result<(), Refusal>
+    requires { face.settle_fits (face.lent state.old seats.old words.now slots.old [] [] said.old) ≡ true
+        → bounds.Whole (face.desk_in (face.lent state.old seats.old words.now slots.old [] [] said.old)) }
+    ensures { face.left (number_in result) (face.lent state.new seats.new words.now slots.new [] [] said.new)
+        ≡ face.settle_leaves (face.lent state.old seats.old words.now slots.old [] [] said.old) }
+{
+    if !room::for_settle(
+        state.len(),
+        seats.len(),
+        words.len(),
+        slots.len(),
+        said.len(),
+    ) {
+        return Err(Refusal::NoRoomForBytes);
     }
-    let desk = desk_at(state);
-    let t = desk::take(seats, words, desk, seat, frame, word);
-    if t.no != 0 {
-        return t.no;
-    }
-    said[0] = count_of(t.place);
-    0
+    let before = desk_at(&state[..]);
+    let s = desk::settle(seats, words, slots, before);
+    set_desk(state, s.desk);
+    set_report(said, s.report);
+    Ok(())
 }
 
 // `said` has the report.
@@ -146,25 +227,10 @@ pub fn desk_settle(
     ensures { face.left result (face.lent state.new seats.new words.now slots.new [] [] said.new)
         ≡ face.settle_leaves (face.lent state.old seats.old words.now slots.old [] [] said.old) }
 {
-    if !room::for_settle(
-        state.len(),
-        seats.len(),
-        words.len(),
-        slots.len(),
-        said.len(),
-    ) {
-        return NO_ROOM_FOR_BYTES;
-    }
-    let before = desk_at(&state[..]);
-    let s = desk::settle(seats, words, slots, before);
-    let after = s.desk;
-    let report = s.report;
-    set_desk(state, after);
-    set_report(said, report);
-    0
+    number(settle(state, seats, words, slots, said))
 }
 
-// An advance whose lists are long enough.
+#[tactic(auto, using(frame_info::proofs::Refusals::number_some), unfolding(crate::specs::Face::settle_room, crate::specs::Face::rows_room, crate::specs::Face::room_of_row, crate::specs::Face::advance_on, crate::specs::Face::does, desk::specs::Calls::advance_report, desk::specs::Calls::advance_served, desk::specs::Calls::advance_statuses, desk::specs::Desk::advance))]
 fn advance(
     state: &mut [u32],
     seats: &mut [u32],
@@ -173,23 +239,29 @@ fn advance(
     served: &mut [u32],
     statuses: &mut [u32],
     said: &mut [u32],
-) -> u32
-    requires { bounds.Whole (face.desk_in (face.lent state.old seats.old words.now slots.old served.old statuses.old said.old))
-        × (state_words ≤ length state.old) × ((desk_at state.old).seats ≤ length served.old)
-        × ((desk_at state.old).seats ≤ length statuses.old) × (2 ≤ length said.old) }
-    ensures { face.left result (face.lent state.new seats.new words.now slots.new served.new statuses.new said.new)
-        ≡ face.advance_in (face.lent state.old seats.old words.now slots.old served.old statuses.old said.old) }
+) -> Result<(), Refusal>
+    requires { face.advance_fits (face.lent state.old seats.old words.now slots.old served.old statuses.old said.old) ≡ true
+        → bounds.Whole (face.desk_in (face.lent state.old seats.old words.now slots.old served.old statuses.old said.old)) }
+    ensures { face.left (number_in result) (face.lent state.new seats.new words.now slots.new served.new statuses.new said.new)
+        ≡ face.advance_leaves (face.lent state.old seats.old words.now slots.old served.old statuses.old said.old) }
 {
-    let before = desk_at(&state[..]);
-    let a = desk::advance_into(seats, words, slots, before, served, statuses);
-    if a.no != 0 {
-        return a.no;
+    if !room::for_settle(
+        state.len(),
+        seats.len(),
+        words.len(),
+        slots.len(),
+        said.len(),
+    ) {
+        return Err(Refusal::NoRoomForBytes);
     }
-    let after = a.desk;
-    let report = a.report;
-    set_desk(state, after);
-    set_report(said, report);
-    0
+    let before = desk_at(&state[..]);
+    if !room::for_rows(before.seats, served.len(), statuses.len()) {
+        return Err(Refusal::NoRoomForBytes);
+    }
+    let a = desk::advance_into(seats, words, slots, before, served, statuses)?;
+    set_desk(state, a.desk);
+    set_report(said, a.report);
+    Ok(())
 }
 
 // `said` has the report. `served` and `statuses` have one place for each seat.
@@ -207,22 +279,29 @@ pub fn desk_advance(
     ensures { face.left result (face.lent state.new seats.new words.now slots.new served.new statuses.new said.new)
         ≡ face.advance_leaves (face.lent state.old seats.old words.now slots.old served.old statuses.old said.old) }
 {
-    if !room::for_settle(
-        state.len(),
-        seats.len(),
-        words.len(),
-        slots.len(),
-        said.len(),
-    ) {
-        return NO_ROOM_FOR_BYTES;
-    }
-    if !room::for_rows(state[0], served.len(), statuses.len()) {
-        return NO_ROOM_FOR_BYTES;
-    }
-    advance(state, seats, words, slots, served, statuses, said)
+    number(advance(state, seats, words, slots, served, statuses, said))
 }
 
-// A show whose lists are long enough.
+// A show into a list that has a place for each seat.
+#[tactic(auto, using(frame_info::proofs::Refusals::number_some), unfolding(desk::specs::Calls::show_says, desk::specs::Calls::show_words))]
+fn show_into(
+    slots: &[u32],
+    seats: &[u32],
+    desk: DeskState,
+    frame: i32,
+    shown: &mut [u32],
+) -> Result<Console, Refusal>
+    requires { bounds.Seated desk seats.now × SlotRoom slots.now × (desk.seats ≤ length shown.old) }
+    ensures { (shown_said result ≡ calls.show_says (desk_of desk seats.now [] slots.now) frame)
+        × (shown.new ≡ calls.show_words (desk_of desk seats.now [] slots.now) frame shown.old) }
+{
+    let mut words = [0u32; MAX_SEATS];
+    let console = desk::show(slots, seats, desk, frame, &mut words)?;
+    put_row(shown, &words, desk.seats as usize);
+    Ok(console)
+}
+
+#[tactic(auto, unfolding(crate::specs::Face::look_room, crate::specs::Face::room_of_row, crate::specs::Face::show_on, crate::specs::Face::does))]
 fn show(
     state: &[u32],
     seats: &[u32],
@@ -230,23 +309,21 @@ fn show(
     frame: i32,
     shown: &mut [u32],
     said: &mut [u32],
-) -> u32
-    requires { bounds.Seated (desk_at state.now) seats.now × SlotRoom slots.now × (state_words ≤ length state.now)
-        × ((desk_at state.now).seats ≤ length shown.old) × (3 ≤ length said.old) }
-    ensures { face.left result (face.lent state.now seats.now [] slots.now shown.new [] said.new)
-        ≡ face.show_in frame (face.lent state.now seats.now [] slots.now shown.old [] said.old) }
+) -> Result<(), Refusal>
+    requires { face.show_fits (face.lent state.now seats.now [] slots.now shown.old [] said.old) ≡ true → bounds.Seated (desk_at state.now) seats.now }
+    ensures { face.left (number_in result) (face.lent state.now seats.now [] slots.now shown.new [] said.new)
+        ≡ face.show_leaves frame (face.lent state.now seats.now [] slots.now shown.old [] said.old) }
 {
-    let desk = desk_at(state);
-    let mut words = [0u32; MAX_SEATS];
-    let s = desk::show(slots, seats, desk, frame, &mut words);
-    if s.no != 0 {
-        return s.no;
+    if !room::for_look(state.len(), seats.len(), slots.len(), said.len(), 3) {
+        return Err(Refusal::NoRoomForBytes);
     }
-    let console = s.console;
-    let n = desk.seats as usize;
-    put_row(shown, &words, n);
+    let desk = desk_at(state);
+    if !room::for_row(desk.seats, shown.len()) {
+        return Err(Refusal::NoRoomForBytes);
+    }
+    let console = show_into(slots, seats, desk, frame, shown)?;
     set_console(said, console);
-    0
+    Ok(())
 }
 
 // `said` has the console after the frame. `shown` has one place for each seat.
@@ -262,13 +339,28 @@ pub fn desk_show(
     ensures { face.left result (face.lent state.now seats.now [] slots.now shown.new [] said.new)
         ≡ face.show_leaves frame (face.lent state.now seats.now [] slots.now shown.old [] said.old) }
 {
-    if !room::for_look(state.len(), seats.len(), slots.len(), said.len(), 3) {
-        return NO_ROOM_FOR_BYTES;
+    number(show(state, seats, slots, frame, shown, said))
+}
+
+#[tactic(auto, unfolding(crate::specs::Face::look_room, crate::specs::Face::log_on, crate::specs::Face::does))]
+fn log(
+    state: &[u32],
+    seats: &[u32],
+    slots: &[u32],
+    frame: i32,
+    line: &mut [u8],
+    said: &mut [u32],
+) -> Result<(), Refusal>
+    requires { face.log_fits (face.lent state.now seats.now [] slots.now line.old [] said.old) ≡ true → bounds.Seated (desk_at state.now) seats.now }
+    ensures { face.left (number_in result) (face.lent state.now seats.now [] slots.now line.new [] said.new)
+        ≡ face.log_leaves frame (face.lent state.now seats.now [] slots.now line.old [] said.old) }
+{
+    if !room::for_look(state.len(), seats.len(), slots.len(), said.len(), 1) {
+        return Err(Refusal::NoRoomForBytes);
     }
-    if !room::for_row(state[0], shown.len()) {
-        return NO_ROOM_FOR_BYTES;
-    }
-    show(state, seats, slots, frame, shown, said)
+    let desk = desk_at(state);
+    said[0] = desk::log(slots, seats, desk, frame, line)?;
+    Ok(())
 }
 
 // `said` has the number of bytes written.
@@ -284,16 +376,21 @@ pub fn desk_log(
     ensures { face.left result (face.lent state.now seats.now [] slots.now line.new [] said.new)
         ≡ face.log_leaves frame (face.lent state.now seats.now [] slots.now line.old [] said.old) }
 {
-    if !room::for_look(state.len(), seats.len(), slots.len(), said.len(), 1) {
-        return NO_ROOM_FOR_BYTES;
+    number(log(state, seats, slots, frame, line, said))
+}
+
+#[tactic(auto, unfolding(crate::specs::Face::known_room, crate::specs::Face::known_on))]
+fn known(state: &[u32], seats: &[u32], said: &mut [u32]) -> Result<(), Refusal>
+    requires { face.known_fits (face.lent state.now seats.now [] [] [] [] said.old) ≡ true → bounds.Seated (desk_at state.now) seats.now }
+    ensures { face.left (number_in result) (face.lent state.now seats.now [] [] [] [] said.new)
+        ≡ face.known_leaves (face.lent state.now seats.now [] [] [] [] said.old) }
+{
+    if !room::for_known(state.len(), seats.len(), said.len()) {
+        return Err(Refusal::NoRoomForBytes);
     }
     let desk = desk_at(state);
-    let w = desk::log(slots, seats, desk, frame, line);
-    if w.no != 0 {
-        return w.no;
-    }
-    said[0] = w.count;
-    0
+    said[0] = count_of(desk::known(seats, desk));
+    Ok(())
 }
 
 // `said` has K as a count, 0 where a seat has no word: a number of its own would be one more that a
@@ -303,10 +400,5 @@ pub fn desk_known(state: &[u32], seats: &[u32], said: &mut [u32]) -> u32
     ensures { face.left result (face.lent state.now seats.now [] [] [] [] said.new)
         ≡ face.known_leaves (face.lent state.now seats.now [] [] [] [] said.old) }
 {
-    if !room::for_known(state.len(), seats.len(), said.len()) {
-        return NO_ROOM_FOR_BYTES;
-    }
-    let desk = desk_at(state);
-    said[0] = count_of(desk::known(seats, desk));
-    0
+    number(known(state, seats, said))
 }

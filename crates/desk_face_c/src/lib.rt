@@ -1,6 +1,8 @@
 // The exports of the crate `desk_face` for programs in C or Rust: each is its function of the same
 // name, with the same promise. A crate is a library or an archive for C, so that the archive is a
 // crate of its own.
+//
+// Kept: the C interface has a name, lists and numbers, and answers a number.
 #![tactic(auto)]
 
 ghost use Rattle.std.specs.Prelude.{◌≡◌, true, []};

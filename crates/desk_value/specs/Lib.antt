@@ -1,1 +1,3 @@
+pub mod Answer
 pub mod Value
+pub mod Said

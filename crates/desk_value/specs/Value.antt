@@ -10,11 +10,8 @@ use Rattle.desk.specs.Calls as calls
 use Rattle.desk.specs.Whole as bounds
 use Rattle.desk.specs.Runs.{Call, take_call, settle_call, advance_call, show_call, log_call}
 use Rattle.desk_value.specs.declared.Desk.{Desk}
-use Rattle.desk_value.specs.declared.OpenedDesk.{OpenedDesk}
-use Rattle.desk_value.specs.declared.TakenDesk.{TakenDesk}
 use Rattle.desk_value.specs.declared.SettledDesk.{SettledDesk}
-use Rattle.desk_value.specs.declared.AdvancedDesk.{AdvancedDesk}
-use Rattle.desk_value.specs.declared.ShownDesk.{ShownDesk}
+use Rattle.desk_value.specs.Answer.{OpenedDesk, TakenDesk, AdvancedDesk, ShownDesk}
 
 -- the same desk with its lists lent, and a lent one that keeps its lists
 abbrev pub lent : Desk → m.Desk

@@ -4,14 +4,18 @@
 
 ghost use Rattle.std.specs.Prelude.{◌≡◌};
 ghost use Rattle.desk.specs.Calls as calls;
+ghost use Rattle.desk.specs.Said.{logged_said};
+ghost use Rattle.desk_value.specs.Said.{opened_said, taken_said, advanced_said, shown_said};
 ghost use Rattle.desk_value.specs.Value as held;
 
 use console::Console;
-use desk::{DeskState, Logged, Report};
+use desk::{DeskState, Report};
+use frame_info::BLANK;
 use frame_info::input_status::InputStatus;
+use frame_info::refusal::Refusal;
 use sync_layer::{MAX_SEATS, SEATS_LENGTH, SLOTS_LENGTH, WORDS_LENGTH};
 
-#[derive(Clone, Copy)]
+#[derive(Clone, Copy, Debug, PartialEq, Eq)]
 pub struct Desk {
     pub state: DeskState,
     pub seats: [u32; SEATS_LENGTH],
@@ -19,39 +23,39 @@ pub struct Desk {
     pub slots: [u32; SLOTS_LENGTH],
 }
 
-#[derive(Clone, Copy)]
+// A setup's answer. One that is refused hands back a fresh desk too: so the two stand side by side,
+// and are no `Result`.
+#[derive(Clone, Copy, Debug, PartialEq, Eq)]
 pub struct OpenedDesk {
-    pub no: u32,
+    pub refused: Option<Refusal>,
     pub desk: Desk,
 }
 
-#[derive(Clone, Copy)]
+// What the other calls answer where they are not refused.
+#[derive(Clone, Copy, Debug, PartialEq, Eq)]
 pub struct TakenDesk {
-    pub no: u32,
     pub place: i32,
     pub desk: Desk,
 }
 
-#[derive(Clone, Copy)]
+#[derive(Clone, Copy, Debug, PartialEq, Eq)]
 pub struct SettledDesk {
     pub report: Report,
     pub desk: Desk,
 }
 
-// The words served and their statuses, seat by seat; 0 past the desk's seats, and where it refuses.
-#[derive(Clone, Copy)]
+// The words served and their statuses, seat by seat; 0 past the desk's seats.
+#[derive(Clone, Copy, Debug, PartialEq, Eq)]
 pub struct AdvancedDesk {
-    pub no: u32,
     pub report: Report,
     pub served: [u32; MAX_SEATS],
     pub statuses: [InputStatus; MAX_SEATS],
     pub desk: Desk,
 }
 
-// The words shown, seat by seat; 0 past the desk's seats, and where it refuses.
-#[derive(Clone, Copy)]
+// The words shown, seat by seat; 0 past the desk's seats.
+#[derive(Clone, Copy, Debug, PartialEq, Eq)]
 pub struct ShownDesk {
-    pub no: u32,
     pub words: [u32; MAX_SEATS],
     pub console: Console,
 }
@@ -59,60 +63,65 @@ pub struct ShownDesk {
 impl Desk {
     // A fresh desk, one delay for each seat: 1 where anything is out of range, and then a desk of
     // one seat with limit, delay and predictor 0.
+    #[tactic(auto, unfolding(crate::specs::Value::opened, desk::specs::Desk::setup_of))]
     pub fn setup(limit: u32, predictor: u32, delays: &[u32]) -> OpenedDesk
-        ensures { result ≡ held.opened limit predictor delays.now }
+        ensures { opened_said result ≡ held.opened limit predictor delays.now }
     {
-        let mut seats = [0u32; SEATS_LENGTH];
-        let words = [0u32; WORDS_LENGTH];
-        let mut slots = [0u32; SLOTS_LENGTH];
-        let o = desk::setup(&mut seats, &mut slots, limit, predictor, delays);
-        let state = o.desk;
+        let mut seats = [0; SEATS_LENGTH];
+        let mut slots = [0; SLOTS_LENGTH];
+        let opened = desk::setup(&mut seats, &mut slots, limit, predictor, delays);
         OpenedDesk {
-            no: o.no,
+            refused: opened.refused,
             desk: Desk {
-                state,
+                state: opened.desk,
                 seats,
-                words,
+                words: [BLANK; WORDS_LENGTH],
                 slots,
             },
         }
     }
 
     // Stores a seat's word for a frame: 2, 7, 6, 3, 4. Answers the place.
-    pub fn take(self, seat: u32, frame: i32, word: u32) -> TakenDesk
+    #[tactic(auto, using(crate::proofs::Held::take_refused))]
+    pub fn take(self, seat: u32, frame: i32, word: u32) -> Result<TakenDesk, Refusal>
         requires { held.Whole self }
-        ensures { result ≡ held.taken self seat frame word }
+        ensures { taken_said self result ≡ held.taken self seat frame word }
     {
-        let s = self.state;
-        let mut seats = self.seats;
-        let mut words = self.words;
-        let t = desk::take(&mut seats, &mut words, s, seat, frame, word);
-        let mut desk = self;
-        desk.seats = seats;
-        desk.words = words;
-        TakenDesk {
-            no: t.no,
-            place: t.place,
-            desk,
-        }
+        let Desk {
+            state,
+            mut seats,
+            mut words,
+            slots,
+        } = self;
+        let place = desk::take(&mut seats, &mut words, state, seat, frame, word)?;
+        Ok(TakenDesk {
+            place,
+            desk: Desk {
+                state,
+                seats,
+                words,
+                slots,
+            },
+        })
     }
 
     // Corrects what was guessed wrong, and lets go of what can no longer change.
+    #[tactic(auto, unfolding(crate::specs::Value::settled))]
     pub fn settle(self) -> SettledDesk
         requires { held.Whole self }
         ensures { result ≡ held.settled self }
     {
-        let s = self.state;
-        let mut seats = self.seats;
-        let words = self.words;
-        let mut slots = self.slots;
-        let t = desk::settle(&mut seats, &words, &mut slots, s);
-        let state = t.desk;
-        let report = t.report;
+        let Desk {
+            state,
+            mut seats,
+            words,
+            mut slots,
+        } = self;
+        let settled = desk::settle(&mut seats, &words, &mut slots, state);
         SettledDesk {
-            report,
+            report: settled.report,
             desk: Desk {
-                state,
+                state: settled.desk,
                 seats,
                 words,
                 slots,
@@ -122,76 +131,66 @@ impl Desk {
 
     // Serves one frame: 6, 5, changing nothing; else settles, saves, requests all seats, steps, and
     // goes one frame on.
-    pub fn advance(self) -> AdvancedDesk
+    #[tactic(auto, using(frame_info::proofs::Refusals::number_some), unfolding(crate::specs::Value::advanced, desk::specs::Calls::advance_report, desk::specs::Calls::advance_served, desk::specs::Calls::advance_statuses, desk::specs::Desk::advance))]
+    pub fn advance(self) -> Result<AdvancedDesk, Refusal>
         requires { held.Whole self }
-        ensures { result ≡ held.advanced self }
+        ensures { advanced_said self result ≡ held.advanced self }
     {
-        let s = self.state;
-        let mut seats = self.seats;
-        let words = self.words;
-        let mut slots = self.slots;
-        let mut served = [0u32; MAX_SEATS];
-        let mut statuses = [0u32; MAX_SEATS];
-        let a = desk::advance(
+        let Desk {
+            state,
+            mut seats,
+            words,
+            mut slots,
+        } = self;
+        let mut served = [BLANK; MAX_SEATS];
+        let mut statuses = [0; MAX_SEATS];
+        let advanced = desk::advance(
             &mut seats,
             &words,
             &mut slots,
-            s,
+            state,
             &mut served,
             &mut statuses,
-        );
-        let state = a.desk;
-        let report = a.report;
-        AdvancedDesk {
-            no: a.no,
-            report,
+        )?;
+        Ok(AdvancedDesk {
+            report: advanced.report,
             served,
             statuses,
             desk: Desk {
-                state,
+                state: advanced.desk,
                 seats,
                 words,
                 slots,
             },
-        }
+        })
     }
 
     // A settled frame's words and the console after it: 7, 21.
-    pub fn show(self, frame: i32) -> ShownDesk
+    #[tactic(auto, unfolding(crate::specs::Value::shown, desk::specs::Calls::show_says, desk::specs::Calls::show_words, desk::specs::Calls::show_answer, desk::specs::Settled::is_settled))]
+    pub fn show(self, frame: i32) -> Result<ShownDesk, Refusal>
         requires { held.Whole self }
-        ensures { result ≡ held.shown self frame }
+        ensures { shown_said result ≡ held.shown self frame }
     {
-        let s = self.state;
-        let seats = self.seats;
-        let slots = self.slots;
-        let mut words = [0u32; MAX_SEATS];
-        let shown = desk::show(&slots, &seats, s, frame, &mut words);
-        let console = shown.console;
-        ShownDesk {
-            no: shown.no,
-            words,
-            console,
-        }
+        let mut words = [BLANK; MAX_SEATS];
+        let console = desk::show(&self.slots, &self.seats, self.state, frame, &mut words)?;
+        Ok(ShownDesk { words, console })
     }
 
     // A settled frame's log line: 7, 21, 20. Answers how many bytes it takes; those past it stay.
-    pub fn log(self, frame: i32, out: &mut [u8]) -> Logged
+    #[tactic(auto, using(crate::proofs::Held::logs))]
+    pub fn log(self, frame: i32, out: &mut [u8]) -> Result<u32, Refusal>
         requires { held.Whole self }
-        ensures { (result ≡ calls.log_says (held.lent self) frame out.old)
+        ensures { (logged_said result ≡ calls.log_says (held.lent self) frame out.old)
             × (out.new ≡ calls.log_bytes (held.lent self) frame out.old) }
     {
-        let s = self.state;
-        let seats = self.seats;
-        let slots = self.slots;
-        desk::log(&slots, &seats, s, frame, out)
+        desk::log(&self.slots, &self.seats, self.state, frame, out)
     }
 
     pub fn current_frame(self) -> i32
         requires { held.Whole self }
         ensures { result ≡ calls.current_frame_of self.state }
     {
-        let s = self.state;
-        desk::current_frame(s)
+        desk::current_frame(self.state)
     }
 
     // K, -1 where a seat has no word.
@@ -199,29 +198,24 @@ impl Desk {
         requires { held.Whole self }
         ensures { result ≡ calls.known_frame (held.lent self) }
     {
-        let s = self.state;
-        let seats = self.seats;
-        desk::known(&seats, s)
+        desk::known(&self.seats, self.state)
     }
 
     pub fn console(self) -> Console
         ensures { result ≡ self.state.console }
     {
-        let s = self.state;
-        s.console
+        self.state.console
     }
 
     pub fn seats(self) -> u32
         ensures { result ≡ self.state.seats }
     {
-        let s = self.state;
-        s.seats
+        self.state.seats
     }
 
     pub fn limit(self) -> u32
         ensures { result ≡ self.state.limit }
     {
-        let s = self.state;
-        s.limit
+        self.state.limit
     }
 }

@@ -1,4 +1,4 @@
-// What every layer speaks of: frames, control words, inputs, the predictors and the refusal numbers.
+// What every layer speaks of: frames, control words, inputs, the predictors and the refusals.
 //
 // A frame is an i32 at every public edge, and -1 stands for none. Inside, a frame is a count: 0 for
 // none, else the frame + 1, so that all arithmetic below the edge is unsigned. `count_of` and
@@ -13,6 +13,8 @@ ghost use Rattle.frame_info.specs.Frame.{count_of, frame_of};
 ghost use Rattle.frame_info.specs.Word.{box_of, predicted, player_input, blank};
 
 // No frame.
+// Kept: -1 and the count 0 stand for none, and no Option, in the C interface's calls and lists, and
+// in the definitions `count_of` and `frame_of`.
 pub const NULL_FRAME: i32 = -1;
 
 // The last frame of a reel, and its count.
@@ -43,17 +45,14 @@ pub fn count_of(frame: i32) -> u32
 pub fn frame_of(count: u32) -> i32
     ensures { result ≡ frame_of count }
 {
-    if count == 0 {
-        return NULL_FRAME;
+    match count {
+        1..=HIGHEST_COUNT => (count - 1) as i32,
+        _ => NULL_FRAME,
     }
-    if count > HIGHEST_COUNT {
-        return NULL_FRAME;
-    }
-    (count - 1) as i32
 }
 
 // One hand's word for one frame.
-#[derive(Clone, Copy)]
+#[derive(Clone, Copy, Debug, PartialEq, Eq)]
 pub struct PlayerInput {
     pub frame: i32,
     pub input: u32,
@@ -92,7 +91,7 @@ pub fn box_of(word: u32) -> u32
 
 // The guess that a predictor makes from the newest word. A number that is no predictor's is taken
 // for 2, the jog cleared; setups refuse it.
-// Kept: a number and no enum, since `predicted` and the queue's `input` promise an answer for any.
+// Kept: the predictor is a number and no enum, since `predict` promises a guess for any number.
 #[tactic(auto, unfolding(crate::specs::Word::predicted))]
 pub fn predict(predictor: u32, word: u32) -> u32
     ensures { result ≡ predicted predictor word }

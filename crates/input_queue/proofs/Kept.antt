@@ -1,15 +1,13 @@
 -- What a call presumes of a queue is given by a setup and kept by every call. Assumes nothing.
 use Prim.Native.Nat.{ℕ, zero, suc, ◌+◌, ◌-◌, ◌<◌, ◌≤◌}
 use native.Mathlib.Omega.{arith}
-use mathlib.Core.Path.{◌≡◌, refl, sym, ◌∙◌}
+use mathlib.Core.Path.{◌≡◌, refl, ◌∙◌}
 use mathlib.Core.Bool.{true, false}
-use mathlib.Core.Logic.{◌⊎◌, inl, inr, ⊎_elim}
-use Prim.{absurd}
+use mathlib.Core.Logic.{◌⊎◌, ⊎_elim}
 use mathlib.Core.List.{List, [], ◌∷◌}
 use lib.ListN.{length, length-set}
 use lib.Dec.{ltb}
 use lib.IntN.{ℤ}
-use borrow.Author.Tests.{ltb-false}
 use Rattle.frame_info.proofs.Split.{split_eqb, split_ltb, split_leb, split_bool}
 use Rattle.frame_info.specs.Frame.{count_of, last_count}
 use Rattle.frame_info.specs.Word.{predicted}
@@ -22,7 +20,7 @@ use Rattle.input_queue.specs.Whole.{Sane, Whole}
 use Rattle.input_queue.specs.Runs as runs
 use Rattle.input_queue.specs.Runs.{Queue, Call, add_call, input_call, discard_call, reset_call, delay_call}
 use Rattle.input_queue.proofs.Fills.{put_added, put_ahead, fill_added, fill_ahead}
-use Rattle.input_queue.proofs.Answers.{add_low}
+use Rattle.std.proofs.lemmas.Bool.Decides.{nat_tests}
 
 -- Setup
 pub fresh_sane : (d : ℕ) → d ≤ 60 → Sane (fresh_state d)
@@ -91,26 +89,17 @@ add_sane at s f w h g room = ⊎_elim thrown stored (split_ltb (f + s.frame_dela
 
 -- what does not overfill a queue is tossed, or has room
 pub not_over : (s : QueueState) (f : ℕ) → calls.overfull s f ≡ false → (f + s.frame_delay < s.last_added_count) ⊎ (f + s.frame_delay < s.oldest + queue_length)
-not_over s f o =
-    ⊎_elim
-    (λ a. inl a.0)
-    (λ a. inr (omega (arith, ltb-false queue_length (f + s.frame_delay + 1 - s.oldest) (simp a.1 at o))))
-    (split_ltb (f + s.frame_delay) s.last_added_count)
+not_over s f o = grind (arith, nat_tests)
 
 -- and so is or has what is not refused
 add_room : (s : QueueState) (c : ℕ) → calls.add_refusal s c ≡ 0 → (c - 1 + s.frame_delay < s.last_added_count) ⊎ (c - 1 + s.frame_delay < s.oldest + queue_length)
 unfolding calls.add_refusal
-add_room s c z =
-    ⊎_elim
-    (λ a. absurd (omega (arith, simp a.1 at z)))
-    (λ a. ⊎_elim
-    (λ b. absurd (omega (arith, simp (a.1, b.1) at z)))
-    (λ b. ⊎_elim
-    (λ d. absurd (omega (arith, simp (a.1, b.1, d) at z)))
-    (λ d. ⊎_elim (λ e. absurd (omega (arith, simp (a.1, b.1, d, e) at z))) (not_over s (c - 1)) (split_bool (calls.overfull s (c - 1))))
-    (split_bool (calls.out_of_turn s c)))
-    (split_ltb last_count c))
-    (split_eqb c 0)
+add_room s c z = grind (arith, nat_tests)
+
+-- whose frame is in range
+add_low : (s : QueueState) (c : ℕ) → calls.add_refusal s c ≡ 0 → c - 1 < last_count
+unfolding calls.add_refusal
+add_low s c z = grind (arith, nat_tests)
 
 pub asked_sane : (p at : ℕ → ℕ) (s : QueueState) (f : ℕ) → Sane s → Sane (asked p at s f)
 unfolding asked
@@ -118,11 +107,7 @@ asked_sane p at s f h =
     record { late = h.late; users = h.users; few = h.few; kept = h.kept; ring = h.ring; ahead = within }
   where
     within : predicting_asked s f ≤ s.last_added_count + 1
-    within =
-        ⊎_elim
-        (λ a. ⊎_elim (λ b. simp (a.1, b.1) (omega arith)) (λ b. simp (a.1, b.1) (omega arith)) (split_ltb f s.last_added_count))
-        (λ a. simp a.1 h.ahead)
-        (split_eqb s.prediction_count 0)
+    within = grind (arith, nat_tests)
 
 pub discard_sane : (s : QueueState) (f : ℕ) → Sane s → Sane (discard s f)
 unfolding discard
@@ -165,7 +150,7 @@ module _ (l : List ℕ) (base : ℕ) (s : QueueState) (h : Whole l base s) where
       (λ a. simp a.1
       (record {
         room = rw (add_long l base s (count_of i.frame - 1) i.input) h.room;
-        numbers = add_sane (word_at l base) s (count_of i.frame - 1) i.input h.numbers (add_low s (count_of i.frame) 0 (sym a.0) refl) (add_room s (count_of i.frame) a.0);
+        numbers = add_sane (word_at l base) s (count_of i.frame - 1) i.input h.numbers (add_low s (count_of i.frame) a.0) (add_room s (count_of i.frame) a.0);
       }))
       (λ a. simp a.1 h)
       (split_eqb (calls.add_refusal s (count_of i.frame)) 0)

@@ -1,5 +1,4 @@
 pub mod Cases
 pub mod Fills
-pub mod Answers
 pub mod Kept
 pub mod Places

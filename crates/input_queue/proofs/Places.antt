@@ -2,26 +2,26 @@
 use Prim.Native.Nat.{ℕ, zero, suc, ◌+◌, ◌-◌, ◌<◌, ◌≤◌}
 use native.Mathlib.Omega.{arith}
 use mathlib.Core.Path.{◌≡◌, refl, ap, ◌∙◌}
-use mathlib.Core.Bool.{false}
 use mathlib.Core.Logic.{◌≢◌, ◌⊎◌, ⊎_elim}
 use Prim.{absurd}
 use mathlib.Core.List.{List, [], ◌∷◌, ◌++◌, append_assoc, append-nil}
 use lib.ListN.{length, get_or, set, replicate, length-set, length-append, length-replicate, get_or-append}
 use lib.Seq.{get_or-set_same, get_or-set_other, get_or-append_seam}
-use lib.Dec.{ltb}
 use lib.IntN.{ℤ, pos}
-use borrow.Author.Tests.{ne_eqb, lt-ltb, le-ltb, le-leb, lt-leb}
-use Rattle.frame_info.proofs.Split.{split_eqb, split_ltb, split_leb, split_bool}
+use Rattle.frame_info.proofs.Split.{split_eqb, split_ltb}
 use Rattle.frame_info.specs.Frame.{count_of}
 use Rattle.frame_info.specs.Word.{player_input}
 use Rattle.frame_info.specs.declared.PlayerInput.{PlayerInput}
 use Rattle.input_queue.specs.declared.QueueState.{QueueState}
-use Rattle.input_queue.specs.Queue.{newest, fill, used, add, asked, reset, discard, delayed}
+use Rattle.input_queue.specs.Queue.{newest, add, asked, reset, discard, delayed}
 use Rattle.input_queue.specs.Ring.{spot, word_at, put_word, fill_words, add_words}
 use Rattle.input_queue.specs.Calls as calls
 use Rattle.input_queue.specs.Whole.{Whole}
 use Rattle.input_queue.specs.Runs as runs
 use Rattle.input_queue.specs.Runs.{Queue, Call, Holds, placed, placed_by, add_call, input_call, discard_call, reset_call, delay_call}
+use Rattle.std.proofs.Common.{add-one, sym}
+use Rattle.std.proofs.lemmas.Bool.Decides.{nat_tests}
+use Rattle.std.proofs.lemmas.List.{replicate-append-replicate}
 use Rattle.input_queue.proofs.Fills.{put_added, fill_added}
 use Rattle.input_queue.proofs.Kept.{opened_sane, after_whole}
 
@@ -50,25 +50,18 @@ stands_put l base h w k =
         (split_eqb f (length h))
 
 -- copies from the next place on
-repeat_snoc : (n w : ℕ) → replicate (suc n) w ≡ replicate n w ++ (w ∷ [])
-repeat_snoc zero w = refl
-repeat_snoc (suc n) w = ap (λ (l : List ℕ). w ∷ l) (repeat_snoc n w)
-
 stands_fill : (n : ℕ) (l : List ℕ) (base : ℕ) (h : List ℕ) (w : ℕ) → Stands l base h → Stands (fill_words n l base (length h) w) base (h ++ replicate n w)
 unfolding fill_words
 stands_fill zero l base h w k = rw append-nil k
 stands_fill (suc n) l base h w k =
     let e : length (h ++ replicate n w) ≡ length h + n = simp (length-append, length-replicate) in
-    let g : h ++ replicate (suc n) w ≡ (h ++ replicate n w) ++ (w ∷ []) = rw (repeat_snoc n w, append_assoc) in
+    let r : replicate (suc n) w ≡ replicate n w ++ (w ∷ []) = ap (λ (k : ℕ). replicate k w) (sym (add-one n)) ∙ sym (replicate-append-replicate n 1 w) in
+    let g : h ++ replicate (suc n) w ≡ (h ++ replicate n w) ++ (w ∷ []) = rw (r, append_assoc) in
     rw g (rw e at (stands_put (fill_words n l base (length h) w) base (h ++ replicate n w) w (stands_fill n l base h w k)))
 
 -- the newest word, in the ring and in the list
 newest_same : (l : List ℕ) (base : ℕ) (h : List ℕ) → Stands l base h → newest (word_at l base) (length h) ≡ newest (λ f. get_or h f 0) (length h)
-newest_same l base h k =
-    ⊎_elim
-    (λ a. simp a.1)
-    (λ a. simp a.1 (k.at (length h - 1) (omega (arith, a.0)) (omega arith)))
-    (split_eqb (length h) 0)
+newest_same l base h k = grind (arith, nat_tests, k.at (length h - 1))
 
 -- an input that is stored: its fills, and then its word
 stands_stored : (l : List ℕ) (base : ℕ) (h : List ℕ) (k n w : ℕ) → length h ≤ k → Stands l base h
@@ -93,26 +86,16 @@ module _ (l : List ℕ) (base : ℕ) (h : List ℕ) (s : QueueState) (f w : ℕ)
 
   count_add : (at : ℕ → ℕ) → (add at s f w).last_added_count ≡ length (placed h (f + s.frame_delay) w)
   unfolding add placed
-  count_add at =
-      ⊎_elim
-      (λ a. rw c (simp a.1))
-      (λ a.
-      let b : ltb (f + s.frame_delay) s.last_added_count ≡ false = rw c a.1 in
-      let e = fill_added (f + s.frame_delay - s.last_added_count) (used s f) (newest at s.last_added_count) in
-      let g = put_added (fill (f + s.frame_delay - s.last_added_count) (used s f) (newest at s.last_added_count)) w in
-      simp (b, a.1)
-      (rw (stored_long h (f + s.frame_delay) (newest (λ g. get_or h g 0) (length h)) w a.0) (omega (arith, e, g, a.0))))
-      (split_ltb (f + s.frame_delay) (length h))
+  count_add at = grind (arith, nat_tests, c, fill_added, put_added, stored_long)
 
 -- the other calls store nothing
 served_added : (l : List ℕ) (base : ℕ) (s : QueueState) (p : ℕ) (f : ℤ) → (calls.served l base s p f).state.last_added_count ≡ s.last_added_count
 unfolding calls.served asked
-served_added l base s p f =
-    ⊎_elim (λ a. simp a.1) (λ a. simp a.1) (split_eqb (calls.input_refusal s (count_of f)) 0)
+served_added l base s p f = grind (arith, nat_tests)
 
 discarded_added : (s : QueueState) (f : ℤ) → (calls.discarded s f).state.last_added_count ≡ s.last_added_count
 unfolding calls.discarded discard
-discarded_added s f = ⊎_elim (λ a. simp a.1) (λ a. simp a.1) (split_eqb (count_of f) 0)
+discarded_added s f = grind (arith, nat_tests)
 
 reset_added : (s : QueueState) → (reset s).last_added_count ≡ s.last_added_count
 unfolding reset
@@ -120,11 +103,7 @@ reset_added s = refl
 
 delayed_added : (l : List ℕ) (base : ℕ) (s : QueueState) (d : ℕ) → (calls.delayed_to l base s d).state.last_added_count ≡ s.last_added_count
 unfolding calls.delayed_to delayed
-delayed_added l base s d =
-    ⊎_elim
-    (λ a. simp a.1)
-    (λ a. ⊎_elim (λ b. simp (a.1, b)) (λ b. simp (a.1, b)) (split_bool (calls.announces s d)))
-    (split_ltb 60 d)
+delayed_added l base s d = grind (arith, nat_tests)
 
 still_holds : (base : ℕ) (q : Queue) (h : List ℕ) (s : QueueState) → s.last_added_count ≡ q.state.last_added_count → Holds base q h → Holds base (record { state = s; words = q.words }) h
 still_holds base q h s e b = record { count = e ∙ b.count; newest_held = b.newest_held }
@@ -147,11 +126,7 @@ add_holds base q h i a b =
 
 opened_added : (p d : ℕ) → (calls.opened p d).state.last_added_count ≡ 0
 unfolding calls.opened
-opened_added p d =
-    ⊎_elim
-    (λ a. ⊎_elim (λ b. simp (a.1, b.1)) (λ b. simp (a.1, b.1)) (split_leb d 60))
-    (λ a. simp a.1)
-    (split_ltb p 3)
+opened_added p d = grind (arith, nat_tests)
 
 -- So after every call, and after any run of them.
 module _ (base p : ℕ) where
@@ -188,17 +163,8 @@ module _ (base p : ℕ) where
 module _ (base : ℕ) (q : Queue) (h : List ℕ) (b : Holds base q h) (f : ℕ) where
   pub lookup_held : f < length h → length h ≤ f + 128 → calls.found q.words base q.state (pos f) ≡ record { no = 0; input = player_input (pos f) (get_or h f 0) }
   unfolding calls.found calls.found_refusal
-  lookup_held p k =
-      let e : f + 1 - 1 ≡ f = omega arith in
-      let n = ne_eqb (f + 1) 0 (λ z. omega arith) in
-      rw (e, b.count) (simp (n, lt-ltb f (length h) p, le-leb (length h) (f + 128) k) (ap (λ (w : ℕ). record { no = 0; input = player_input (pos f) w }) (b.newest_held f p k)))
+  lookup_held p k = grind (arith, nat_tests, b.count, b.newest_held f p k)
 
   pub lookup_gone : (length h ≤ f) ⊎ (f + 128 < length h) → (calls.found q.words base q.state (pos f)).no ≡ 11
   unfolding calls.found calls.found_refusal
-  lookup_gone g =
-      let e : f + 1 - 1 ≡ f = omega arith in
-      let n = ne_eqb (f + 1) 0 (λ z. omega arith) in
-      ⊎_elim
-      (λ a. rw (e, b.count) (simp (n, le-ltb f (length h) a)))
-      (λ a. rw (e, b.count) (simp (n, lt-ltb f (length h) (omega arith), lt-leb (length h) (f + 128) a)))
-      g
+  lookup_gone g = grind (arith, nat_tests)

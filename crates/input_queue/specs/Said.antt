@@ -1,6 +1,6 @@
 -- A call's `Result`, read as the answer that its definition gives: 0 beside what it found, or the number of its refusal beside the state as it was
 -- given. No two of them read alike, so the answer is determined.
-use Rattle.std.specs.Prelude.{ℕ, Option, Some, None, Result, Ok, Err, false}
+use Rattle.std.specs.Prelude.{Result, Ok, Err, false}
 use Rattle.frame_info.specs.Frame.{null_frame}
 use Rattle.frame_info.specs.Word.{blank, player_input}
 use Rattle.frame_info.specs.Refusal.{done, number_of, number_given}

@@ -7,6 +7,8 @@
 //
 // Each call tests for itself. One that refuses answers why, and writes nothing: the state that it was
 // given stands.
+// Kept: words, base and state go side by side, with `Whole` on each call, since C lends the states and
+// the words of all seats as two lists: a struct of the three would be built for every call.
 #![tactic(auto)]
 
 mod steps;
@@ -29,7 +31,8 @@ pub use steps::{ask, discard, fresh_state, reset, store};
 pub const INPUT_QUEUE_LENGTH: usize = 128;
 
 // Frames are counts here: 0 for none, else the frame + 1.
-#[derive(Clone, Copy, Debug, PartialEq, Eq)]
+// Kept: 0 and no Option, since the definitions of specs/Queue.antt and the lists for C hold counts.
+#[derive(Clone, Copy, Debug, Default, PartialEq, Eq)]
 pub struct QueueState {
     // From a frame to its place.
     pub frame_delay: u32,
@@ -48,8 +51,9 @@ pub struct QueueState {
     pub first_incorrect_count: u32,
 }
 
-// A setup's answer. One that is refused hands back a fresh queue too, with predictor and delay 0:
-// so the two stand side by side, and are no `Result`.
+// A setup's answer.
+// Kept: no `Result`, since `calls.opened` promises a fresh queue beside a refusal too, with predictor
+// and delay 0.
 #[derive(Clone, Copy, Debug, PartialEq, Eq)]
 pub struct Opened {
     pub refused: Option<Refusal>,
@@ -88,6 +92,7 @@ pub struct Stored {
 }
 
 // A fresh queue: 1 where predictor or delay is out of range.
+#[tactic(auto, unfolding(crate::specs::Calls::opened))]
 pub fn new(predictor: u32, delay: u32) -> Opened
     ensures { opened_said result ≡ calls.opened predictor delay }
 {
@@ -107,6 +112,7 @@ pub fn new(predictor: u32, delay: u32) -> Opened
 
 // Stores a hand's word, with the fills before it: 7, 6, 3, 4. Answers its place, -1 where it is
 // tossed.
+#[tactic(auto, using(frame_info::proofs::Refusals::number_some), unfolding(crate::specs::Calls::add_input, crate::specs::Calls::input_words, crate::specs::Calls::add_refusal))]
 pub fn add_input(
     words: &mut [u32],
     base: usize,
@@ -120,15 +126,15 @@ pub fn add_input(
     let count = count_of(input.frame);
     add_refusal(s, count)?;
     let stored = store(words, base, s, count - 1, input.input);
-    let state = stored.state;
     Ok(Added {
         place: frame_of(stored.place),
-        state,
+        state: stored.state,
     })
 }
 
 // The word of a frame, confirmed or predicted: 7, 13, 14. The predictor is the caller's; a number
 // that is no predictor's is taken for 2, the jog cleared.
+#[tactic(auto, using(frame_info::proofs::Refusals::number_some), unfolding(crate::specs::Calls::served, crate::specs::Calls::input_refusal))]
 pub fn input(
     words: &[u32],
     base: usize,
@@ -145,6 +151,7 @@ pub fn input(
 }
 
 // The stored word of a frame, even after a discard: 7, 11.
+#[tactic(auto, using(frame_info::proofs::Refusals::number_some), unfolding(crate::specs::Calls::found, crate::specs::Calls::found_refusal))]
 pub fn confirmed_input(
     words: &[u32],
     base: usize,
@@ -161,6 +168,7 @@ pub fn confirmed_input(
 }
 
 // Lets go of the places before a frame: 7.
+#[tactic(auto, unfolding(crate::specs::Calls::discarded))]
 pub fn discard_confirmed_frames(s: QueueState, frame: i32) -> Result<QueueState, Refusal>
     ensures { discarded_said s result ≡ calls.discarded s frame }
 {
@@ -179,6 +187,7 @@ pub fn reset_prediction(s: QueueState) -> QueueState
 }
 
 // Another delay: 1 above 60. Announces the copies that a rise will make, and stores nothing.
+#[tactic(auto, unfolding(crate::specs::Calls::delayed_to))]
 pub fn set_frame_delay(
     words: &[u32],
     base: usize,
@@ -251,13 +260,11 @@ fn overfull(s: QueueState, frame: u32) -> bool
     ensures { result ≡ calls.overfull s frame }
 {
     let place = frame + s.frame_delay;
-    if place < s.last_added_count {
-        return false;
-    }
-    INPUT_QUEUE_LENGTH < (place + 1 - s.oldest) as usize
+    place >= s.last_added_count && INPUT_QUEUE_LENGTH < (place + 1 - s.oldest) as usize
 }
 
 // Why an input is refused, if it is.
+#[tactic(auto, unfolding(crate::specs::Calls::add_refusal))]
 pub fn add_refusal(s: QueueState, count: u32) -> Result<(), Refusal>
     requires { Sane s }
     ensures { number_in result ≡ calls.add_refusal s count }
@@ -278,6 +285,7 @@ pub fn add_refusal(s: QueueState, count: u32) -> Result<(), Refusal>
 }
 
 // Why a request is refused, if it is.
+#[tactic(auto, unfolding(crate::specs::Calls::input_refusal))]
 pub fn input_refusal(s: QueueState, count: u32) -> Result<(), Refusal>
     ensures { number_in result ≡ calls.input_refusal s count }
 {

@@ -16,13 +16,8 @@ pub fn fresh_state(delay: u32) -> QueueState
 {
     QueueState {
         frame_delay: delay,
-        last_user_count: 0,
-        last_added_count: 0,
-        oldest: 0,
-        last_requested_count: 0,
-        prediction_count: 0,
         prediction: BLANK,
-        first_incorrect_count: 0,
+        ..QueueState::default()
     }
 }
 
@@ -42,23 +37,20 @@ pub fn newest_word(words: &[u32], base: usize, added: u32) -> u32
 fn mismatches(s: QueueState, word: u32) -> bool
     ensures { result ≡ queue.mismatches s word }
 {
-    if s.prediction_count == 0 {
-        return false;
-    }
     let guess = PlayerInput::new(NULL_FRAME, s.prediction);
     let stored = PlayerInput::new(NULL_FRAME, word);
-    !guess.input_matches(stored)
+    s.prediction_count != 0 && !guess.input_matches(stored)
 }
 
 // The first mismatch after a word is stored.
+#[tactic(auto, unfolding(crate::specs::Queue::wrong_after))]
 fn wrong_after(s: QueueState, word: u32) -> u32
     requires { s.last_added_count ≤ last_count + max_delay }
     ensures { result ≡ queue.wrong_after s word }
 {
     if s.first_incorrect_count != 0 {
-        return s.first_incorrect_count;
-    }
-    if mismatches(s, word) {
+        s.first_incorrect_count
+    } else if mismatches(s, word) {
         s.last_added_count + 1
     } else {
         0
@@ -69,21 +61,16 @@ fn wrong_after(s: QueueState, word: u32) -> u32
 fn ends(s: QueueState, wrong: u32) -> bool
     ensures { result ≡ queue.ends s wrong }
 {
-    if wrong != 0 {
-        return false;
-    }
-    s.prediction_count == s.last_requested_count
+    wrong == 0 && s.prediction_count == s.last_requested_count
 }
 
 // The prediction's frame after a word is stored.
+#[tactic(auto, unfolding(crate::specs::Queue::predicting_after))]
 fn predicting_after(s: QueueState, wrong: u32) -> u32
     requires { s.prediction_count ≤ last_count + max_delay + 1 }
     ensures { result ≡ queue.predicting_after s wrong }
 {
-    if s.prediction_count == 0 {
-        return 0;
-    }
-    if ends(s, wrong) {
+    if s.prediction_count == 0 || ends(s, wrong) {
         0
     } else {
         s.prediction_count + 1
@@ -91,6 +78,7 @@ fn predicting_after(s: QueueState, wrong: u32) -> u32
 }
 
 // A word at the next place.
+#[tactic(auto, unfolding(crate::specs::Queue::put))]
 fn add_input_by_frame(words: &mut [u32], base: usize, s: QueueState, word: u32) -> QueueState
     requires { (base + queue_length ≤ length words.old) × (s.last_added_count ≤ last_count + max_delay)
         × (s.prediction_count ≤ s.last_added_count + 1) }
@@ -100,15 +88,16 @@ fn add_input_by_frame(words: &mut [u32], base: usize, s: QueueState, word: u32) 
     let at = base + place as usize % INPUT_QUEUE_LENGTH;
     words[at] = word;
     let wrong = wrong_after(s, word);
-    let predicting = predicting_after(s, wrong);
-    let mut q = s;
-    q.last_added_count = place + 1;
-    q.prediction_count = predicting;
-    q.first_incorrect_count = wrong;
-    q
+    QueueState {
+        last_added_count: place + 1,
+        prediction_count: predicting_after(s, wrong),
+        first_incorrect_count: wrong,
+        ..s
+    }
 }
 
 // Copies of a word, up to a place.
+#[tactic(auto, using(crate::proofs::Fills::fills), unfolding(crate::specs::Queue::fill, crate::specs::Ring::fill_words))]
 fn fill(words: &mut [u32], base: usize, s: QueueState, word: u32, place: u32) -> QueueState
     requires { (base + queue_length ≤ length words.old) × (place ≤ last_count + max_delay)
         × (s.last_added_count ≤ place) × (s.prediction_count ≤ s.last_added_count + 1) }
@@ -116,13 +105,14 @@ fn fill(words: &mut [u32], base: usize, s: QueueState, word: u32, place: u32) ->
         × (words.new ≡ fill_words (place - s.last_added_count) words.old base s.last_added_count word) }
 {
     let mut q = s;
-    while q.last_added_count < place {
+    for _ in s.last_added_count..place {
         q = add_input_by_frame(words, base, q, word);
     }
     q
 }
 
 // A user's word: tossed, or stored after its fills.
+#[tactic(auto, using(crate::proofs::Fills::filled), unfolding(crate::specs::Queue::add, crate::specs::Queue::place_count, crate::specs::Ring::add_words))]
 pub fn store(words: &mut [u32], base: usize, s: QueueState, frame: u32, word: u32) -> Stored
     requires { (frame < last_count) × Whole words.old base s }
     ensures { (result.place ≡ queue.place_count s frame)
@@ -131,17 +121,18 @@ pub fn store(words: &mut [u32], base: usize, s: QueueState, frame: u32, word: u3
 {
     let added = s.last_added_count;
     let place = frame + s.frame_delay;
-    let mut state = s;
-    state.last_user_count = frame + 1;
+    let state = QueueState {
+        last_user_count: frame + 1,
+        ..s
+    };
     if place < added {
         return Stored { place: 0, state };
     }
-    let copy = newest_word(&words[..], base, added);
+    let copy = newest_word(words, base, added);
     let filled = fill(words, base, state, copy, place);
-    let last = add_input_by_frame(words, base, filled, word);
     Stored {
         place: place + 1,
-        state: last,
+        state: add_input_by_frame(words, base, filled, word),
     }
 }
 
@@ -160,21 +151,23 @@ fn fresh_guess(words: &[u32], base: usize, added: u32, predictor: u32) -> u32
 fn requesting(s: QueueState, last: u32, predicting: u32, guess: u32) -> QueueState
     ensures { result ≡ queue.requesting s last predicting guess }
 {
-    let mut q = s;
-    q.last_requested_count = last;
-    q.prediction_count = predicting;
-    q.prediction = guess;
-    q
+    QueueState {
+        last_requested_count: last,
+        prediction_count: predicting,
+        prediction: guess,
+        ..s
+    }
 }
 
 // The word of a frame, given as a count: the standing guess, the stored word, or a guess that
 // begins. The count 0 is taken for frame 0.
+#[tactic(auto, unfolding(crate::specs::Queue::answer, crate::specs::Queue::confirms, crate::specs::Queue::asked))]
 pub fn ask(words: &[u32], base: usize, s: QueueState, predictor: u32, count: u32) -> Asked
     requires { Whole words.now base s }
     ensures { result ≡ queue.asking (predicted predictor) (word_at words.now base) s (count - 1) }
 {
-    let frame = count.saturating_sub(1);
-    let last = frame + 1;
+    let last = count.max(1);
+    let frame = last - 1;
     let added = s.last_added_count;
     if s.prediction_count != 0 {
         return Asked {
@@ -200,14 +193,16 @@ pub fn ask(words: &[u32], base: usize, s: QueueState, predictor: u32, count: u32
 }
 
 // Clears prediction, mismatch and last requested.
+#[tactic(auto, unfolding(crate::specs::Queue::reset))]
 pub fn reset(s: QueueState) -> QueueState
     ensures { result ≡ queue.reset s }
 {
-    let mut q = s;
-    q.last_requested_count = 0;
-    q.prediction_count = 0;
-    q.first_incorrect_count = 0;
-    q
+    QueueState {
+        last_requested_count: 0,
+        prediction_count: 0,
+        first_incorrect_count: 0,
+        ..s
+    }
 }
 
 // A discard's frame, capped by the last requested one.
@@ -215,9 +210,10 @@ fn capped(s: QueueState, frame: u32) -> u32
     ensures { result ≡ queue.capped s frame }
 {
     if s.last_requested_count == 0 {
-        return frame;
+        frame
+    } else {
+        frame.min(s.last_requested_count - 1)
     }
-    frame.min(s.last_requested_count.saturating_sub(1))
 }
 
 // The oldest kept place after a discard.
@@ -229,19 +225,23 @@ fn oldest_after(s: QueueState, frame: u32) -> u32
 }
 
 // Keeps the places from a frame on.
+#[tactic(auto, unfolding(crate::specs::Queue::discard))]
 pub fn discard(s: QueueState, frame: u32) -> QueueState
     ensures { result ≡ queue.discard s frame }
 {
-    let mut q = s;
-    q.oldest = oldest_after(s, capped(s, frame));
-    q
+    QueueState {
+        oldest: oldest_after(s, capped(s, frame)),
+        ..s
+    }
 }
 
 // The queue with another delay.
+#[tactic(auto, unfolding(crate::specs::Queue::delayed))]
 pub fn with_delay(s: QueueState, delay: u32) -> QueueState
     ensures { result ≡ queue.delayed s delay }
 {
-    let mut q = s;
-    q.frame_delay = delay;
-    q
+    QueueState {
+        frame_delay: delay,
+        ..s
+    }
 }

@@ -19,8 +19,9 @@ pub struct InputQueue {
     pub inputs: [u32; INPUT_QUEUE_LENGTH],
 }
 
-// A setup's answer. One that is refused hands back a fresh queue too, with predictor and delay 0:
-// so the two stand side by side, and are no `Result`.
+// A setup's answer.
+// Kept: no `Result`, since `held.opened` promises a fresh queue beside a refusal too, with predictor
+// and delay 0.
 #[derive(Clone, Copy, Debug, PartialEq, Eq)]
 pub struct OpenedQueue {
     pub refused: Option<Refusal>,

@@ -180,7 +180,7 @@ module _ (y : LayerState) (l : List ℕ) (h : Seated y l) where
       ⊎_elim
       (λ a. rw a.1
       (set_seated y l h i (queue.add_input words (ring_of i) (seat_at l i) x).state (p a.0)
-      (add_whole words (ring_of i) (seat_at l i) (seated_whole y l h i (p a.0) (seat_at l i) refl words w) x).numbers))
+      (add_whole words (ring_of i) (seat_at l i) (seated_whole y l i words h (p a.0) w) x).numbers))
       (λ a. rw a.1 h)
       (split_eqb n 0)
 
@@ -190,7 +190,7 @@ module _ (y : LayerState) (l : List ℕ) (h : Seated y l) where
       ⊎_elim
       (λ a. simp a.1
       (set_seated y l h i (queue.delayed_to words (ring_of i) (seat_at l i) d).state a.0
-      (delayed_whole words (ring_of i) (seat_at l i) (seated_whole y l h i a.0 (seat_at l i) refl words w) d).numbers))
+      (delayed_whole words (ring_of i) (seat_at l i) (seated_whole y l i words h a.0 w) d).numbers))
       (λ a. simp a.1 h)
       (split_ltb i y.num_players)
 

@@ -1,9 +1,7 @@
 pub mod Rows
 pub mod Seating
-pub mod Turns
-pub mod Slotting
 pub mod Answers
-pub mod Asking
+pub mod Refusing
 pub mod Kept
 pub mod Apart
 pub mod Found

@@ -1,12 +1,11 @@
 -- The seats' queues, read and written, over the seat's number. Assumes nothing.
 use Prim.Native.Nat.{ℕ, zero, suc, ◌+◌, ◌*◌, ◌<◌, ◌≤◌}
 use native.Mathlib.Omega.{arith}
-use native.Mathlib.Nat.{add-zero}
 use mathlib.Core.Path.{◌≡◌, refl, ◌∙◌}
 use mathlib.Core.Logic.{◌≢◌, ⊎_elim}
 use Prim.{absurd}
 use mathlib.Core.List.{List}
-use lib.ListN.{length, get_or, set}
+use lib.ListN.{length, get_or}
 use lib.Seq.{set-get_or}
 use Rattle.frame_info.proofs.Split.{split_eqb}
 use Rattle.input_queue.specs.declared.QueueState.{QueueState}
@@ -31,29 +30,6 @@ seat_other l i j s d =
     let e : (k : ℕ) → k < seat_words → get_or (write_row seat_words l (i * seat_words) (λ k. get_or (numbers_of s) k 0)) (j * seat_words + k) 0 ≡ get_or l (j * seat_words + k) 0
     = λ k q. row_other seat_words l (i * seat_words) (λ k. get_or (numbers_of s) k 0) (j * seat_words + k) 0 (λ m r z. d (omega arith)) in
     rw (e 0 (omega arith), e 1 (omega arith), e 2 (omega arith), e 3 (omega arith), e 4 (omega arith), e 5 (omega arith), e 6 (omega arith), e 7 (omega arith))
-
--- as the code reads and writes them
-pub seat_read : (l : List ℕ) (i : ℕ)
-    → record {
-      frame_delay = get_or l (i * seat_words) 0;
-      last_user_count = get_or l (i * seat_words + 1) 0;
-      last_added_count = get_or l (i * seat_words + 2) 0;
-      oldest = get_or l (i * seat_words + 3) 0;
-      last_requested_count = get_or l (i * seat_words + 4) 0;
-      prediction_count = get_or l (i * seat_words + 5) 0;
-      prediction = get_or l (i * seat_words + 6) 0;
-      first_incorrect_count = get_or l (i * seat_words + 7) 0;
-    } ≡ seat_at l i
-unfolding seat_at
-seat_read l i = simp add-zero
-
-pub seat_written : (l : List ℕ) (i : ℕ) (s : QueueState)
-    → set (set (set (set (set (set (set (set l (i * seat_words) s.frame_delay) (i * seat_words + 1) s.last_user_count) (i * seat_words + 2) s.last_added_count) (i * seat_words + 3) s.oldest) (i * seat_words + 4) s.last_requested_count) (i * seat_words + 5) s.prediction_count) (i * seat_words + 6) s.prediction) (i * seat_words + 7) s.first_incorrect_count
-    ≡ set_seat l i s
-unfolding set_seat write_row
-seat_written l i s = simp add-zero
-
-pub ruleset seatings = (seat_read, seat_written)
 
 -- Over the seats: each in turn.
 module _ (h : ℕ → QueueState → QueueState) where

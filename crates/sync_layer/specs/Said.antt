@@ -1,6 +1,6 @@
 -- A call's `Result`, read as the answer that its definition gives: 0 beside what it found, or the number of its refusal beside the layer as it was
 -- given. No two of them read alike, so the answer is determined.
-use Rattle.std.specs.Prelude.{ℕ, ℤ, Result, Ok, Err}
+use Rattle.std.specs.Prelude.{ℤ, Result, Ok, Err}
 use Rattle.frame_info.specs.Frame.{null_frame}
 use Rattle.frame_info.specs.Word.{blank}
 use Rattle.frame_info.specs.Refusal.{done, number_of, number_given}

@@ -1,5 +1,5 @@
 -- What a call presumes of a layer: bounds that a setup gives and that every call keeps. Each call asks for the lists that it is lent.
-use Rattle.std.specs.Prelude.{ℕ, suc, ◌+◌, ◌*◌, ◌≤◌, ◌<◌, List, length}
+use Rattle.std.specs.Prelude.{ℕ, suc, ◌≡◌, ◌+◌, ◌*◌, ◌≤◌, ◌<◌, Bool, List, length, ℤ}
 use Rattle.frame_info.specs.Frame.{last_count, predictors}
 use Rattle.input_queue.specs.Ring.{queue_length}
 use Rattle.input_queue.specs.Whole.{Sane}
@@ -31,6 +31,13 @@ pub record Seated (y : LayerState) (seats : List ℕ) : Type 0 where
   pub ready : Ready y
   pub room : SeatRoom seats
   pub seat : (i : ℕ) → i < y.num_players → Sane (seat_at seats i)
+
+-- a status list has an entry for seat i, and one for each seat
+abbrev pub Listed : List Bool → List ℤ → ℕ → Type 0
+Listed gone last i = (i < length gone) × (i < length last)
+
+abbrev pub OneEach : LayerState → List Bool → List ℤ → Type 0
+OneEach y gone last = (y.num_players ≡ length gone) × (y.num_players ≡ length last)
 
 -- what it takes to place an input in seat i's queue
 pub record Places (seats words : List ℕ) (i : ℕ) : Type 0 where

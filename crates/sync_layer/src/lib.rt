@@ -92,7 +92,7 @@ fn delays_in_range(delays: &[u32]) -> bool
     delays.iter().all(|&delay| delay <= MAX_DELAY)
 }
 
-#[tactic(auto, using(crate::proofs::Turns::all_in_range), unfolding(crate::specs::Calls::Setup::fits))]
+#[tactic(auto, using(crate::proofs::Answers::all_in_range), unfolding(crate::specs::Calls::Setup::fits))]
 fn fits(limit: u32, predictor: u32, delays: &[u32]) -> bool
     ensures { result ≡ calls.fits limit predictor delays.now }
 {
@@ -118,6 +118,7 @@ fn fresh_layer(seats: u32, limit: u32, predictor: u32) -> LayerState
 
 // A fresh layer, one delay for each seat: 1 where anything is out of range, and then a layer of one
 // seat with limit, delay and predictor 0. The words need not be cleared.
+#[tactic(auto, unfolding(crate::specs::Calls::Setup::opened, crate::specs::Calls::Setup::opened_seats, crate::specs::Calls::Setup::opened_slots, crate::specs::Calls::Setup::fits))]
 pub fn new(
     seats: &mut [u32],
     slots: &mut [u32],
@@ -138,8 +139,7 @@ pub fn new(
             layer: fresh_layer(delays.len() as u32, limit, predictor),
         };
     }
-    let none = [0u32; 1];
-    seats::fresh_seats(seats, &none);
+    seats::fresh_seats(seats, &[0]);
     slots::clear_slots(slots, 1);
     Opened {
         refused: Some(Refusal::OutOfRange),
@@ -178,15 +178,16 @@ fn with_current(layer: LayerState, frame: u32) -> LayerState
 }
 
 // One frame on: 6 at the last frame.
+#[tactic(auto, unfolding(crate::specs::Calls::Frames::advanced))]
 pub fn advance_frame(layer: LayerState) -> Result<LayerState, Refusal>
     requires { Ready layer }
     ensures { advanced_said layer result ≡ calls.advanced layer }
 {
     let next = layer.current_frame + 1;
-    if next < LAST_COUNT {
-        return Ok(with_current(layer, next));
+    if next >= LAST_COUNT {
+        return Err(Refusal::FrameTooHigh);
     }
-    Err(Refusal::FrameTooHigh)
+    Ok(with_current(layer, next))
 }
 
 // Frame and state into the current frame's slot. The words of the slot stay.
@@ -211,6 +212,7 @@ fn slot_holds(slots: &[u32], limit: u32, count: u32) -> bool
 }
 
 // Why a load is refused, if it is.
+#[tactic(auto, unfolding(crate::specs::Calls::Frames::load_refusal))]
 fn load_refusal(slots: &[u32], layer: LayerState, count: u32) -> Result<(), Refusal>
     requires { Ready layer × SlotRoom slots.now }
     ensures { number_in result ≡ calls.load_refusal layer slots.now count }
@@ -231,6 +233,7 @@ fn load_refusal(slots: &[u32], layer: LayerState, count: u32) -> Result<(), Refu
 }
 
 // The state saved for a frame, which becomes the current one: 7, 8, 9, 10.
+#[tactic(auto, unfolding(crate::specs::Calls::Frames::loaded, crate::specs::Calls::Frames::load_refusal))]
 pub fn load_frame(slots: &[u32], layer: LayerState, frame: i32) -> Result<Loaded, Refusal>
     requires { Ready layer × SlotRoom slots.now }
     ensures { loaded_said layer result ≡ calls.loaded layer slots.now frame }
@@ -244,6 +247,7 @@ pub fn load_frame(slots: &[u32], layer: LayerState, frame: i32) -> Result<Loaded
 }
 
 // Why a saved lookup is refused, if it is.
+#[tactic(auto, unfolding(crate::specs::Calls::Frames::saved_refusal))]
 fn saved_refusal(slots: &[u32], limit: u32, count: u32) -> Result<(), Refusal>
     requires { (limit ≤ max_limit) × SlotRoom slots.now }
     ensures { number_in result ≡ calls.saved_refusal limit slots.now count }
@@ -258,6 +262,7 @@ fn saved_refusal(slots: &[u32], limit: u32, count: u32) -> Result<(), Refusal>
 }
 
 // The state saved for a frame: 7, 10.
+#[tactic(auto, unfolding(crate::specs::Calls::Frames::saved_by, crate::specs::Calls::Frames::saved_refusal))]
 pub fn saved_state_by_frame(
     slots: &[u32],
     layer: LayerState,
@@ -272,6 +277,7 @@ pub fn saved_state_by_frame(
 }
 
 // The highest frame saved within a range, -1 where there is none: 7 for either end.
+#[tactic(auto, unfolding(crate::specs::Calls::Frames::latest))]
 pub fn latest_saved_state_in_range(
     slots: &[u32],
     layer: LayerState,
@@ -291,6 +297,7 @@ pub fn latest_saved_state_in_range(
 }
 
 // Why a remote input is refused, if it is.
+#[tactic(auto, unfolding(crate::specs::Calls::Inputs::remote_refusal))]
 fn remote_refusal(seats: &[u32], layer: LayerState, seat: u32, count: u32) -> Result<(), Refusal>
     requires { Seated layer seats.now }
     ensures { number_in result ≡ calls.remote_refusal layer seats.now seat count }
@@ -302,6 +309,7 @@ fn remote_refusal(seats: &[u32], layer: LayerState, seat: u32, count: u32) -> Re
 }
 
 // Why a local input is refused, if it is.
+#[tactic(auto, unfolding(crate::specs::Calls::Inputs::local_refusal))]
 fn local_refusal(seats: &[u32], layer: LayerState, seat: u32, count: u32) -> Result<(), Refusal>
     requires { Seated layer seats.now }
     ensures { number_in result ≡ calls.local_refusal layer seats.now seat count }
@@ -322,6 +330,7 @@ fn local_refusal(seats: &[u32], layer: LayerState, seat: u32, count: u32) -> Res
 }
 
 // Seat i's queue takes an input that is not refused. Answers its place.
+#[tactic(auto, unfolding(input_queue::specs::Calls::add_input, input_queue::specs::Calls::input_words, input_queue::specs::Calls::add_refusal))]
 fn place_input(seats: &mut [u32], words: &mut [u32], seat: usize, input: PlayerInput) -> i32
     requires { Places seats.old words.old seat × (add_refusal (seat_at seats.old seat) (count_of input.frame) ≡ 0) }
     ensures { (result ≡ (calls.placed seats.old words.old seat input).place)
@@ -336,6 +345,7 @@ fn place_input(seats: &mut [u32], words: &mut [u32], seat: usize, input: PlayerI
 }
 
 // A far hand's input: 2, 7, 6, 3, 4.
+#[tactic(auto, unfolding(crate::specs::Calls::Inputs::remote, crate::specs::Calls::Inputs::remote_seats, crate::specs::Calls::Inputs::remote_words, crate::specs::Calls::Inputs::remote_refusal))]
 pub fn add_remote_input(
     seats: &mut [u32],
     words: &mut [u32],
@@ -353,6 +363,7 @@ pub fn add_remote_input(
 }
 
 // A near hand's input, for the current frame: 2, 7, 6, 12, 3, 4.
+#[tactic(auto, unfolding(crate::specs::Calls::Inputs::local, crate::specs::Calls::Inputs::local_seats, crate::specs::Calls::Inputs::local_words, crate::specs::Calls::Inputs::local_refusal))]
 pub fn add_local_input(
     seats: &mut [u32],
     words: &mut [u32],
@@ -370,6 +381,7 @@ pub fn add_local_input(
 }
 
 // Another delay for a seat: 2, 1.
+#[tactic(auto, using(crate::proofs::Seating::seat_kept), unfolding(crate::specs::Calls::Inputs::delayed_to, crate::specs::Calls::Inputs::delayed_seats))]
 pub fn set_frame_delay(
     seats: &mut [u32],
     words: &[u32],
@@ -424,6 +436,7 @@ fn confirm_cap(layer: LayerState, count: u32, sparse: bool) -> u32
 }
 
 // Why a confirm is refused, if it is.
+#[tactic(auto, unfolding(crate::specs::Calls::Confirm::cap_refusal))]
 fn confirm_refusal(seats: &[u32], layer: LayerState, count: u32, cap: u32) -> Result<(), Refusal>
     requires { Seated layer seats.now }
     ensures { number_in result ≡ calls.cap_refusal layer seats.now count cap }
@@ -439,6 +452,7 @@ fn confirm_refusal(seats: &[u32], layer: LayerState, count: u32, cap: u32) -> Re
 }
 
 // Nothing at or below a frame will change any more: 7, 15. The queues let go of what is before it.
+#[tactic(auto, unfolding(crate::specs::Calls::Confirm::confirmed, crate::specs::Calls::Confirm::confirmed_seats))]
 pub fn set_last_confirmed_frame(
     seats: &mut [u32],
     layer: LayerState,
@@ -452,13 +466,11 @@ pub fn set_last_confirmed_frame(
     let count = count_of(frame);
     let cap = confirm_cap(layer, count, sparse);
     confirm_refusal(&seats[..], layer, count, cap)?;
-    let confirmed = LayerState {
+    if cap >= 2 {
+        discard_seats(seats, layer.num_players as usize, cap - 2);
+    }
+    Ok(LayerState {
         last_confirmed_count: cap,
         ..layer
-    };
-    if cap < 2 {
-        return Ok(confirmed);
-    }
-    discard_seats(seats, layer.num_players as usize, cap - 2);
-    Ok(confirmed)
+    })
 }

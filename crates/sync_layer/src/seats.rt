@@ -9,6 +9,7 @@ ghost use Rattle.sync_layer.specs.Calls.{fresh_seats};
 use crate::SEAT_WORDS;
 use input_queue::QueueState;
 
+#[tactic(auto, unfolding(crate::specs::Seats::seat_at))]
 pub fn seat_at(seats: &[u32], seat: usize) -> QueueState
     requires { (seat + 1) * seat_words ≤ length seats.now }
     ensures { result ≡ seat_at seats.now seat }
@@ -26,6 +27,7 @@ pub fn seat_at(seats: &[u32], seat: usize) -> QueueState
     }
 }
 
+#[tactic(auto, unfolding(crate::specs::Seats::set_seat, crate::specs::Lists::write_row))]
 pub fn set_seat(seats: &mut [u32], seat: usize, s: QueueState)
     requires { (seat + 1) * seat_words ≤ length seats.old }
     ensures { seats.new ≡ set_seat seats.old seat s }
@@ -42,6 +44,7 @@ pub fn set_seat(seats: &mut [u32], seat: usize, s: QueueState)
 }
 
 // Every seat fresh, with its own delay.
+#[tactic(auto, using(crate::proofs::Seating::map_past), unfolding(crate::specs::Seats::map_seats))]
 pub fn fresh_seats(seats: &mut [u32], delays: &[u32])
     requires { length delays.now * seat_words ≤ length seats.old }
     ensures { seats.new ≡ fresh_seats delays.now seats.old }
@@ -51,6 +54,7 @@ pub fn fresh_seats(seats: &mut [u32], delays: &[u32])
     }
 }
 
+#[tactic(auto, using(crate::proofs::Seating::map_past), unfolding(crate::specs::Seats::map_seats))]
 pub fn reset_seats(seats: &mut [u32], n: usize)
     requires { n * seat_words ≤ length seats.old }
     ensures { seats.new ≡ map_seats n (λ i q. reset q) seats.old }
@@ -61,6 +65,7 @@ pub fn reset_seats(seats: &mut [u32], n: usize)
     }
 }
 
+#[tactic(auto, using(crate::proofs::Seating::map_past), unfolding(crate::specs::Seats::map_seats))]
 pub fn discard_seats(seats: &mut [u32], n: usize, frame: u32)
     requires { n * seat_words ≤ length seats.old }
     ensures { seats.new ≡ map_seats n (λ i q. discard q frame) seats.old }
@@ -82,6 +87,7 @@ fn lower_of(a: u32, b: u32) -> u32
 }
 
 // The lowest mismatch of the seats, as a count.
+#[tactic(auto, unfolding(crate::specs::Lists::lowest_of))]
 pub fn lowest_wrong(seats: &[u32], n: usize) -> u32
     requires { n * seat_words ≤ length seats.now }
     ensures { result ≡ lowest_of n (λ i. (seat_at seats.now i).first_incorrect_count) }

@@ -1,14 +1,14 @@
 // What is served to every seat for a frame. A status list has one entry a seat: whether it is gone,
 // and its last frame.
-ghost use Rattle.std.specs.Prelude.{◌≡◌, ◌+◌, ◌-◌, ◌*◌, ◌≤◌, ◌<◌, length, set};
+ghost use Rattle.std.specs.Prelude.{ℕ, ◌≡◌, ◌+◌, ◌-◌, ◌*◌, ◌≤◌, ◌<◌, length, set};
 ghost use Rattle.frame_info.specs.Refusal.{number_in};
 ghost use Rattle.frame_info.specs.Word.{predicted};
 ghost use Rattle.input_queue.specs.Queue.{asking};
-ghost use Rattle.input_queue.specs.Ring.{queue_length, word_at};
+ghost use Rattle.input_queue.specs.Ring.{word_at};
 ghost use Rattle.sync_layer.specs.Calls as calls;
 ghost use Rattle.sync_layer.specs.Lists.{first_refusal, write_row};
-ghost use Rattle.sync_layer.specs.Seats.{max_seats, ring_of, seat_at, set_seat, map_seats};
-ghost use Rattle.sync_layer.specs.Whole.{WordRoom, Seated, Places, Serves};
+ghost use Rattle.sync_layer.specs.Seats.{max_seats, seat_words, ring_of, seat_at, set_seat, map_seats};
+ghost use Rattle.sync_layer.specs.Whole.{WordRoom, Seated, Places, Serves, Listed, OneEach};
 
 use crate::seats::{seat_at, set_seat};
 use crate::{LayerState, MAX_SEATS};
@@ -17,9 +17,11 @@ use frame_info::refusal::Refusal;
 use frame_info::{BLANK, NULL_FRAME, count_of, frame_of};
 use input_queue::{Asked, INPUT_QUEUE_LENGTH};
 
+// Kept: its two lists go side by side, as C lends them. In a struct of both, an `ensures` would name
+// each as list.entry.disconnected.now, which is no plainer.
 // Whether a seat is gone, with its last frame below a frame.
 fn gone_below(disconnected: &[bool], last_frame: &[i32], seat: usize, frame: u32) -> bool
-    requires { (seat < length disconnected.now) × (seat < length last_frame.now) }
+    requires { Listed disconnected.now last_frame.now seat }
     ensures { result ≡ calls.gone_below frame disconnected.now last_frame.now seat }
 {
     disconnected[seat] && count_of(last_frame[seat]) <= frame
@@ -32,6 +34,17 @@ fn one_each(layer: LayerState, disconnected: &[bool], last_frame: &[i32]) -> boo
     disconnected.len() == n && last_frame.len() == n
 }
 
+// Why the lowest of n seats that refuse does, if one does.
+fn first_refusal<F: Fn(usize) -> Result<(), Refusal>>(n: usize, refusal: F) -> Result<(), Refusal>
+    requires { (i : ℕ) → i < n → F.pre refusal i }
+    ensures { (number : ℕ → ℕ) → ((i : ℕ) (r : _) → i < n → F.post refusal i r → number_in r ≡ number i) → number_in result ≡ first_refusal n number }
+{
+    for i in 0..n {
+        refusal(i)?;
+    }
+    Ok(())
+}
+
 fn ask_refusal(
     seats: &[u32],
     layer: LayerState,
@@ -39,7 +52,7 @@ fn ask_refusal(
     last_frame: &[i32],
     seat: usize,
 ) -> Result<(), Refusal>
-    requires { Seated layer seats.now × (seat < layer.num_players) × (seat < length disconnected.now) × (seat < length last_frame.now) }
+    requires { Seated layer seats.now × (seat < layer.num_players) × Listed disconnected.now last_frame.now seat }
     ensures { number_in result ≡ calls.ask_refusal layer seats.now disconnected.now last_frame.now seat }
 {
     if gone_below(disconnected, last_frame, seat, layer.current_frame) {
@@ -48,24 +61,9 @@ fn ask_refusal(
     input_queue::input_refusal(seat_at(seats, seat), layer.current_frame + 1)
 }
 
-// Why the lowest seat that refuses does, if one does.
-fn first_ask_refusal(
-    seats: &[u32],
-    layer: LayerState,
-    disconnected: &[bool],
-    last_frame: &[i32],
-) -> Result<(), Refusal>
-    requires { Seated layer seats.now × (layer.num_players ≡ length disconnected.now) × (layer.num_players ≡ length last_frame.now) }
-    ensures { number_in result ≡ first_refusal layer.num_players (calls.ask_refusal layer seats.now disconnected.now last_frame.now) }
-{
-    for i in 0..layer.num_players as usize {
-        ask_refusal(seats, layer, disconnected, last_frame, i)?;
-    }
-    Ok(())
-}
-
 // Why a request is refused, if it is: 2, and then seat by seat 13, 14.
-pub fn request_refusal(
+#[tactic(auto, unfolding(crate::specs::Calls::Requests::request_refusal))]
+fn request_refusal(
     seats: &[u32],
     layer: LayerState,
     disconnected: &[bool],
@@ -77,7 +75,9 @@ pub fn request_refusal(
     if !one_each(layer, disconnected, last_frame) {
         return Err(Refusal::NoSuchSeat);
     }
-    first_ask_refusal(seats, layer, disconnected, last_frame)
+    first_refusal(layer.num_players as usize, |i| {
+        ask_refusal(seats, layer, disconnected, last_frame, i)
+    })
 }
 
 // How an asked word stands.
@@ -100,6 +100,7 @@ pub fn ask_seat(seats: &mut [u32], words: &[u32], predictor: u32, count: u32, se
 }
 
 // One seat's word and status, and its queue after the request; one that is gone is not asked.
+#[tactic(auto, using(crate::proofs::Seating::seat_kept))]
 fn serve_seat(
     seats: &mut [u32],
     words: &[u32],
@@ -110,7 +111,7 @@ fn serve_seat(
     inputs: &mut [u32],
     statuses: &mut [InputStatus],
 )
-    requires { Serves layer seats.old words.now seat × (seat < length disconnected.now) × (seat < length last_frame.now)
+    requires { Serves layer seats.old words.now seat × Listed disconnected.now last_frame.now seat
         × (seat < length inputs.old) × (seat < length statuses.old) }
     ensures { (seats.new
         ≡ set_seat seats.old seat
@@ -122,13 +123,14 @@ fn serve_seat(
     if gone_below(disconnected, last_frame, seat, layer.current_frame) {
         inputs[seat] = BLANK;
         statuses[seat] = DISCONNECTED;
-        return;
+    } else {
+        let asked = ask_seat(seats, words, layer.predictor, layer.current_frame + 1, seat);
+        inputs[seat] = asked.word;
+        statuses[seat] = status_of(asked.confirmed);
     }
-    let asked = ask_seat(seats, words, layer.predictor, layer.current_frame + 1, seat);
-    inputs[seat] = asked.word;
-    statuses[seat] = status_of(asked.confirmed);
 }
 
+#[tactic(auto, using(crate::proofs::Seating::map_past), unfolding(crate::specs::Seats::map_seats, crate::specs::Lists::write_row))]
 fn serve_seats(
     seats: &mut [u32],
     words: &[u32],
@@ -138,7 +140,7 @@ fn serve_seats(
     inputs: &mut [u32],
     statuses: &mut [InputStatus],
 )
-    requires { Seated layer seats.old × WordRoom words.now × (layer.num_players ≡ length disconnected.now) × (layer.num_players ≡ length last_frame.now)
+    requires { Seated layer seats.old × WordRoom words.now × OneEach layer disconnected.now last_frame.now
         × (layer.num_players ≤ length inputs.old) × (layer.num_players ≤ length statuses.old) }
     ensures { (seats.new
         ≡ map_seats layer.num_players (calls.asked_seat layer seats.old words.now disconnected.now last_frame.now) seats.old)
@@ -162,6 +164,7 @@ fn serve_seats(
 }
 
 // A request into lists that have a place for every seat, for callers who have tested that.
+#[tactic(auto, unfolding(crate::specs::Calls::Requests::served_seats, crate::specs::Calls::Requests::served_words, crate::specs::Calls::Requests::statuses, crate::specs::Calls::Requests::request_refusal))]
 pub fn synchronized_inputs_into(
     seats: &mut [u32],
     words: &[u32],
@@ -220,13 +223,12 @@ pub fn synchronized_inputs(
 
 fn find_refusal(
     seats: &[u32],
-    layer: LayerState,
     disconnected: &[bool],
     last_frame: &[i32],
     count: u32,
     seat: usize,
 ) -> Result<(), Refusal>
-    requires { Seated layer seats.now × (0 < count) × (seat < layer.num_players) × (seat < length disconnected.now) × (seat < length last_frame.now) }
+    requires { ((seat + 1) * seat_words ≤ length seats.now) × (0 < count) × Listed disconnected.now last_frame.now seat }
     ensures { number_in result ≡ calls.find_refusal seats.now disconnected.now last_frame.now count seat }
 {
     if gone_below(disconnected, last_frame, seat, count - 1) {
@@ -235,22 +237,7 @@ fn find_refusal(
     input_queue::found_refusal(seat_at(seats, seat), count)
 }
 
-fn first_find_refusal(
-    seats: &[u32],
-    layer: LayerState,
-    disconnected: &[bool],
-    last_frame: &[i32],
-    count: u32,
-) -> Result<(), Refusal>
-    requires { Seated layer seats.now × (0 < count) × (layer.num_players ≡ length disconnected.now) × (layer.num_players ≡ length last_frame.now) }
-    ensures { number_in result ≡ first_refusal layer.num_players (calls.find_refusal seats.now disconnected.now last_frame.now count) }
-{
-    for i in 0..layer.num_players as usize {
-        find_refusal(seats, layer, disconnected, last_frame, count, i)?;
-    }
-    Ok(())
-}
-
+#[tactic(auto, unfolding(crate::specs::Calls::Requests::confirmed_refusal))]
 fn confirmed_refusal(
     seats: &[u32],
     layer: LayerState,
@@ -267,37 +254,12 @@ fn confirmed_refusal(
     if count == 0 {
         return Err(Refusal::FrameBelowZero);
     }
-    first_find_refusal(seats, layer, disconnected, last_frame, count)
+    first_refusal(layer.num_players as usize, |i| {
+        find_refusal(seats, disconnected, last_frame, count, i)
+    })
 }
 
-fn confirmed_word(
-    words: &[u32],
-    disconnected: &[bool],
-    last_frame: &[i32],
-    count: u32,
-    seat: usize,
-) -> u32
-    requires { (0 < count) × (ring_of seat + queue_length ≤ length words.now) × (seat < length disconnected.now) × (seat < length last_frame.now) }
-    ensures { result ≡ calls.confirmed_word words.now disconnected.now last_frame.now count seat }
-{
-    let frame = count - 1;
-    if gone_below(disconnected, last_frame, seat, frame) {
-        return BLANK;
-    }
-    let at = seat * INPUT_QUEUE_LENGTH + frame as usize % INPUT_QUEUE_LENGTH;
-    words[at]
-}
-
-fn confirmed_frame(disconnected: &[bool], last_frame: &[i32], count: u32, seat: usize) -> i32
-    requires { (0 < count) × (seat < length disconnected.now) × (seat < length last_frame.now) }
-    ensures { result ≡ calls.confirmed_frame disconnected.now last_frame.now count seat }
-{
-    if gone_below(disconnected, last_frame, seat, count - 1) {
-        return NULL_FRAME;
-    }
-    frame_of(count)
-}
-
+#[tactic(auto, unfolding(crate::specs::Lists::write_row))]
 fn find_seats(
     words: &[u32],
     layer: LayerState,
@@ -307,21 +269,27 @@ fn find_seats(
     frames: &mut [i32],
     inputs: &mut [u32],
 )
-    requires { (layer.num_players ≤ max_seats) × (0 < count) × WordRoom words.now × (layer.num_players ≡ length disconnected.now)
-        × (layer.num_players ≡ length last_frame.now)
+    requires { (layer.num_players ≤ max_seats) × (0 < count) × WordRoom words.now × OneEach layer disconnected.now last_frame.now
         × (layer.num_players ≤ length frames.old) × (layer.num_players ≤ length inputs.old) }
     ensures { (frames.new ≡ write_row layer.num_players frames.old 0 (calls.confirmed_frame disconnected.now last_frame.now count))
         × (inputs.new ≡ write_row layer.num_players inputs.old 0
         (calls.confirmed_word words.now disconnected.now last_frame.now count)) }
 {
+    let frame = count - 1;
     for i in 0..layer.num_players as usize {
-        frames[i] = confirmed_frame(disconnected, last_frame, count, i);
-        inputs[i] = confirmed_word(words, disconnected, last_frame, count, i);
+        if gone_below(disconnected, last_frame, i, frame) {
+            frames[i] = NULL_FRAME;
+            inputs[i] = BLANK;
+        } else {
+            frames[i] = frame_of(count);
+            inputs[i] = words[i * INPUT_QUEUE_LENGTH + frame as usize % INPUT_QUEUE_LENGTH];
+        }
     }
 }
 
 // The stored word of every seat for a frame; -1 and blank for one that is gone: 2, 7, and then the
 // lowest seat that has none decides, by 11.
+#[tactic(auto, unfolding(crate::specs::Calls::Requests::confirmed_frames, crate::specs::Calls::Requests::confirmed_words, crate::specs::Calls::Requests::confirmed_refusal))]
 pub fn confirmed_inputs(
     seats: &[u32],
     words: &[u32],

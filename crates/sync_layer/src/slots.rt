@@ -17,6 +17,7 @@ pub fn slot_of(limit: u32, frame: u32) -> usize
     (frame % (limit + 1)) as usize * SLOT_WORDS
 }
 
+#[tactic(auto, unfolding(crate::specs::Slots::save_slot, crate::specs::Lists::write_row))]
 pub fn save_slot(slots: &mut [u32], limit: u32, frame: u32, state: Console)
     requires { (limit ≤ max_limit) × (frame < last_count) × SlotRoom slots.old }
     ensures { slots.new ≡ save_slot limit slots.old frame state }
@@ -50,6 +51,7 @@ pub fn state_in(slots: &[u32], limit: u32, frame: u32) -> Console
 }
 
 // Slots 0 to n - 1 hold no frame.
+#[tactic(auto, unfolding(crate::specs::Slots::clear_slots))]
 pub fn clear_slots(slots: &mut [u32], n: usize)
     requires { (n ≤ suc max_limit) × SlotRoom slots.old }
     ensures { slots.new ≡ clear_slots n slots.old }
@@ -62,7 +64,7 @@ pub fn clear_slots(slots: &mut [u32], n: usize)
 fn within_both(low: u32, high: u32, count: u32) -> u32
     ensures { result ≡ within low high count }
 {
-    if low <= count && count <= high {
+    if (low..=high).contains(&count) {
         count
     } else {
         0
@@ -70,6 +72,7 @@ fn within_both(low: u32, high: u32, count: u32) -> u32
 }
 
 // The highest frame's count that slots 0 to n - 1 hold within two others, 0 where there is none.
+#[tactic(auto, using(std::proofs::lemmas::Bool::Decides::nat_tests), unfolding(crate::specs::Slots::highest_in))]
 pub fn highest_in(slots: &[u32], n: usize, low: u32, high: u32) -> u32
     requires { (n ≤ suc max_limit) × SlotRoom slots.now }
     ensures { result ≡ highest_in n slots.now low high }

@@ -1,9 +1,6 @@
-use borrow.Author.Rules.{rules}
-use Rattle.desk.proofs.Loops.{writing}
+use Rattle.desk_face.proofs.Face.{row_copied}
+use native.Mathlib.Omega.{arith}
 use Rattle.desk_face.proofs.put_row.Goals as goal
 
-pub loop-i-init : goal.loop-i-init
-loop-i-init c = search (rules, writing)
-
-pub loop-i-preserved : goal.loop-i-preserved
-loop-i-preserved c = search (rules, writing)
+pub returns : goal.returns
+returns c = row_copied _ _ _ _ c.copy_from_slice.ensures.after (omega (arith, c.requires.0, c.told-row)) c.requires.1

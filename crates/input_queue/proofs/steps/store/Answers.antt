@@ -1,12 +1,10 @@
-use Rattle.input_queue.proofs.Fills.{storing}
-use borrow.Author.Rules.{rules}
+use Rattle.std.proofs.Common.{arith}
+use Rattle.std.proofs.lemmas.Bool.Decides.{nat_tests}
+use Rattle.input_queue.proofs.Fills.{fill_added}
+use Rattle.input_queue.specs.Queue.{add, place_count}
+use Rattle.input_queue.specs.Ring.{add_words}
 use Rattle.input_queue.proofs.steps.store.Goals as goal
 
-pub returns-then-place-added : goal.returns-then-place-added
-returns-then-place-added c = search (rules, storing)
-
-pub add_input_by_frame-last-requires : goal.add_input_by_frame-last-requires
-add_input_by_frame-last-requires c = search (rules, storing)
-
 pub returns : goal.returns
-returns c = search (rules, storing)
+unfolding add place_count add_words
+returns c = (grind (arith, nat_tests), grind (arith, nat_tests), grind (arith, nat_tests, fill_added))

@@ -1,0 +1,16 @@
+use native.Mathlib.Omega.{arith}
+use mathlib.Core.Path.{◌∙◌}
+use mir.Facts.{to_z-of_z}
+use Rattle.std.proofs.lemmas.Result.{err_from_is_err_and}
+use Rattle.frame_info.proofs.Refusals.{number_some}
+use Rattle.desk_face.specs.Face as face
+use Rattle.desk_face.proofs.Face.{bytes_kept}
+use Rattle.desk_face.proofs.log.Goals as goal
+
+pub returns-in_err-said : goal.returns-in_err-said
+unfolding face.look_room face.log_on face.does
+returns-in_err-said c =
+    let told = rw (to_z-of_z c.ranges.frame, c.desk_at-desk.ensures) at c.in_err-said.ensures in
+    let kept = told.1 ∙ bytes_kept _ _ _ _ told.0 in
+    let p = err_from_is_err_and c.from_residual.result c.from_residual.ensures.1 in
+    rw (p.1, p.2) (grind (arith, number_some, told.0, kept))

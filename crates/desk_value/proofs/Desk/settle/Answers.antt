@@ -1,6 +1,0 @@
-use Rattle.desk_value.proofs.Held.{holding}
-use borrow.Author.Rules.{rules}
-use Rattle.desk_value.proofs.Desk.settle.Goals as goal
-
-pub returns : goal.returns
-returns c = search (rules, holding)
