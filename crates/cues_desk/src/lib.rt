@@ -1,9 +1,9 @@
 // The calls of the desk in force, by value: each makes its call and tells its answer. One that is refused leaves the desk as it was.
-#![tactic(auto)]
+#![tactic(auto, using(crate::proofs::Keeping::keeping))]
 
 mod rows;
 
-ghost use Rattle.std.specs.Prelude.{◌+◌, ◌≤◌, ◌<◌, length};
+ghost use Rattle.std.specs.Prelude.{◌+◌, ◌≤◌, length, IfOk};
 ghost use Rattle.desk_value.specs.Value.{Whole};
 
 use cues_text::{
@@ -11,6 +11,7 @@ use cues_text::{
     tell_setup,
 };
 use desk_value::Desk;
+use frame_info::refusal::Refusal;
 use rows::{put_report, tell_served, tell_shown};
 use sheet::calls::DeskCall;
 
@@ -86,6 +87,16 @@ fn show(fields: &Fields, desk: Desk, out: &mut [u8], at: usize) -> usize
     }
 }
 
+// A log line into these bytes. Answers how many it takes without the newline that ends it, which is the
+// answer's own.
+fn log_into(desk: Desk, frame: i32, pad: &mut [u8]) -> Result<usize, Refusal>
+    requires { Whole desk }
+    ensures { IfOk result (λ size. size ≤ 53) }
+{
+    let count = desk.log(frame, pad)?;
+    Ok(count as usize - 1)
+}
+
 // log FRAME ROOM: no more bytes are lent than there are.
 fn log(fields: &Fields, desk: Desk, out: &mut [u8], at: usize) -> usize
     requires { Whole desk × (at + 192 ≤ length out.old) }
@@ -93,13 +104,13 @@ fn log(fields: &Fields, desk: Desk, out: &mut [u8], at: usize) -> usize
 {
     let mut pad = [0u8; 4096];
     let room = fields.number(1).min(4096) as usize;
-    match desk.log(fields.frame(0), &mut pad[..room]) {
-        Ok(count) => tell_line(out, at, &pad[..count - 1]),
+    match log_into(desk, fields.frame(0), &mut pad[..room]) {
+        Ok(size) => tell_line(out, at, &pad[..size]),
         Err(refusal) => tell_refusal(out, at, refusal),
     }
 }
 
-// A log line after its number. The newline that ends it is the answer's own, and not part of it.
+// A log line after its number.
 fn tell_line(out: &mut [u8], at: usize, line: &[u8]) -> usize
     requires { at + 11 + length line.now ≤ length out.old }
     ensures { result ≤ at + 11 + length line.now }
