@@ -7,7 +7,7 @@ use mathlib.Core.List.{List, [], ◌∷◌, ◌++◌}
 use Prim.{absurd}
 use mathlib.Core.Logic.{⊎_elim}
 use lib.ListN.{length, take, drop, get_or, length-drop, length-take, length-append}
-use lib.Seq.{drop-drop}
+use lib.Seq.{take_all, drop-drop}
 use borrow.Author.Tests.{le-leb, lt-leb}
 use Rattle.frame_info.proofs.Split.{split_leb}
 use Rattle.compression.specs.Layout.{size_of, Reading, whole, half, short, after, records_in, records, joined}
@@ -50,7 +50,14 @@ first_whole (x ∷ y ∷ q) n h e k =
     let s : n ≡ size_of x y = omega arith in
     rw (le-leb (size_of x y) (length q) (omega (arith, length-take (suc (suc (length q)) - 2) q))) (ap Whole s)
 
-pub ruleset firsts = (first_end, first_half, first_short, first_whole)
+-- what is left of a packet, as a slice of it
+pub rest_of : (p : List ℕ) (at : ℕ) → take (length p - at) (drop at p) ≡ drop at p
+rest_of p at = take_all (length p - at) (drop at p) (omega (arith, length-drop at p))
+
+pub past_end : (p : List ℕ) (at : ℕ) → length p < at → End ≡ first_of (drop at p)
+past_end p at h = first_end (drop at p) (omega (arith, length-drop at p))
+
+pub ruleset firsts = (first_end, first_half, first_short, first_whole, rest_of, past_end)
 
 -- the bound on the number of records does not matter once it is at least the number of bytes
 enough : (m n : ℕ) (q : List ℕ) → length q ≤ m → length q ≤ n → records_in m q ≡ records_in n q

@@ -36,6 +36,13 @@ masked_laid {out} {rest} d base bytes j h e f =
     ∙ front_grown d s (drop j bytes) [] j (omega arith) (masked_rest base bytes j h ∙ sym (append-nil (drop j bytes)))
     ∙ ap (front d s) m ∙ front_all d s
 
+-- and so is that run alone, where the base reaches all
+pub masked_all : {out : List ℕ} (d base bytes : List ℕ) (j : ℕ) → j ≡ min (length base) (length bytes) → out ≡ front d (masked base bytes) j
+    → length bytes ≤ j → out ≡ over (masked base bytes) d
+masked_all d base bytes j h e k =
+    let m : j ≡ length (masked base bytes) = omega (arith, length_masked base bytes) in
+    e ∙ ap (front d (masked base bytes)) m ∙ front_all d (masked base bytes)
+
 -- the two bytes of the length, and then the masked bytes, are the record
 pub record_laid : {two old rest : List ℕ} (d base input : List ℕ) → length input < length_limit → two ≡ length input % 256 ∷ length input / 256 % 256 ∷ []
     → old ≡ drop 2 d → rest ≡ over (masked base input) old → two ++ rest ≡ over (record_of base input) d

@@ -63,11 +63,6 @@ inputs_after body (whole rest) e = refl
 inputs_after body half e = cc
 inputs_after body short e = cc
 
-no_lengths : (bodies : List (List ℕ)) → lengths_of bodies ≡ [] → bodies ≡ []
-unfolding lengths_of
-no_lengths [] e = refl
-no_lengths (body ∷ bodies) e = cc
-
 -- the base in force after the first input
 base_after : (reference earlier : List ℕ) (k from upto : ℕ) → base_at reference earlier (k + 1) from upto ≡ take (upto - from) (drop from earlier)
 base_after reference earlier k from upto = simp (ne_eqb (k + 1) 0 (λ e. omega arith))
@@ -188,6 +183,9 @@ module _ {reference packet d e : List ℕ} {r : Reader} {k from done : ℕ} {out
         pub unpacks_room : done + length b ≤ length d
         unpacks_room = omega (arith, room, unpacks_long, joined_restored reference (inputs_of (records packet)))
 
+        pub unpacks_place : k < length e
+        unpacks_place = omega (arith, place, count_lengths (restored reference (inputs_of (records packet))), count_restored reference (inputs_of (records packet)))
+
         -- and is unpacked
         pub unpacks_turn : {earlier rest part base : List ℕ} → earlier ≡ take done out → rest ≡ drop done out
             → base ≡ base_at reference earlier k from (length earlier) → part ≡ over (masked base b) rest
@@ -252,14 +250,7 @@ module _ {reference packet d e : List ℕ} {r : Reader} {k from done : ℕ} {out
         let every : k ≡ length sizes = omega (arith, s.few, length-drop k sizes, ap length left) in
         s.sizes ∙ ap (front e sizes) every ∙ front_all e sizes
 
-  -- which is where no whole record stands, or no place is left for a length
+  -- which is where no whole record stands
   pub unpacks_ends : (f : Record) → f ≡ first_of (drop r.at r.packet.now) → ((n : ℕ) → f ≡ Whole n → ⊥) → bodies_from packet r.at ≡ []
   unpacks_ends f e t =
       ends (drop r.at packet) (bodies_from packet r.at) f (e ∙ ap (λ (l : List ℕ). first_of (drop r.at l)) s.held) t s.good
-
-  pub unpacks_full : length (inputs_of (records packet)) ≤ k → bodies_from packet r.at ≡ []
-  unpacks_full h =
-      let sizes : List ℕ = all_lengths reference packet in
-      let many : length sizes ≤ k =
-      omega (arith, count_lengths (restored reference (inputs_of (records packet))), count_restored reference (inputs_of (records packet))) in
-      no_lengths (bodies_from packet r.at) (sym s.sizes_rest ∙ drop_of_length-le sizes many)

@@ -43,7 +43,7 @@ impl Record {
     // The length that a whole record has, and none at the end. Elsewhere the packet breaks.
     pub fn length(self) -> Result<Option<u16>, Refusal>
         ensures number { number_in result ≡ number_of self }
-        ensures length { result ≡ length_of self }
+        ensures value { result ≡ length_of self }
     {
         match self {
             Record::End => Ok(None),
@@ -55,7 +55,7 @@ impl Record {
 }
 
 // A packet that is held, and a place in it.
-#[derive(Clone, Copy)]
+#[derive(Clone, Copy, Debug, PartialEq, Eq)]
 pub struct Reader<'a> {
     pub packet: &'a [u8],
     pub at: usize,
@@ -68,19 +68,15 @@ impl<'a> Reader<'a> {
         Reader { packet, at }
     }
 
-    // What is left of the packet.
-    fn rest(self) -> &'a [u8]
-        ensures { result.now ≡ drop self.entry.at self.entry.packet.now }
-    {
-        self.packet.get(self.at..).unwrap_or_default()
-    }
-
     // What stands at the reader's place.
     #[tactic(auto, using(crate::proofs::Reading::firsts))]
     pub fn next_record(self) -> Record
         ensures { result ≡ first_of (drop self.entry.at self.entry.packet.now) }
     {
-        match self.rest() {
+        if self.packet.len() < self.at {
+            return Record::End;
+        }
+        match &self.packet[self.at..] {
             [] => Record::End,
             [_] => Record::Half,
             [low, high, bytes @ ..] => {
@@ -103,16 +99,21 @@ impl<'a> Reader<'a> {
     }
 }
 
-// Bytes masked by the base go to the front of out.
+// Bytes masked by the base go to the front of out. A call of its own, so that the loops around it have registers left.
+#[inline(never)]
 fn mask(base: &[u8], bytes: &[u8], out: &mut [u8])
     requires { length bytes.now ≤ length out.old }
     ensures { out.new ≡ over (masked base.now bytes.now) out.old }
 {
     let both = base.len().min(bytes.len());
+    // Kept: the bytes are indexed, as a proof knows none of those that a `zip` with `iter_mut` writes.
     for (i, b) in base[..both].iter().enumerate() {
         out[i] = *b ^ bytes[i];
     }
-    out[both..bytes.len()].copy_from_slice(&bytes[both..]);
+    // The base mostly reaches all, and to copy nothing is a call as well.
+    if both < bytes.len() {
+        out[both..bytes.len()].copy_from_slice(&bytes[both..]);
+    }
 }
 
 // One input's record goes to the front of out: its length, and its bytes masked by the base.
@@ -203,9 +204,10 @@ fn base_of<'a>(reference: &'a [u8], earlier: &'a [u8], inputs: usize, from: usiz
     ensures { result.now ≡ base_at reference.now earlier.now inputs from (length earlier.now) }
 {
     if inputs == 0 {
-        return reference;
+        reference
+    } else {
+        &earlier[from..]
     }
-    &earlier[from..]
 }
 
 // All inputs of a whole packet, one after the other, and their lengths.
@@ -219,19 +221,21 @@ fn unpack_all(reference: &[u8], packet: &[u8], out: &mut [u8], lengths: &mut [u1
         ≡ over (lengths_of (restored reference.now (inputs_of (records packet.now)))) lengths.old) }
 {
     let mut reader = Reader::new(packet, 0);
+    let mut done = Unpacked {
+        bytes: 0,
+        lengths: 0,
+    };
     let mut from = 0;
-    let mut done = 0;
-    for (k, place) in lengths.iter_mut().enumerate() {
-        let Record::Whole(length) = reader.next_record() else {
-            return;
-        };
+    // Kept: a `for` over the places of the lengths tests one more end, and unpacks 60 inputs of 64 bytes a fifth slower.
+    while let Record::Whole(length) = reader.next_record() {
         let body = reader.body(length);
-        let (earlier, rest) = out.split_at_mut(done);
-        mask(base_of(reference, earlier, k, from), body, rest);
-        *place = length;
+        let (earlier, rest) = out.split_at_mut(done.bytes);
+        mask(base_of(reference, earlier, done.lengths, from), body, rest);
+        lengths[done.lengths] = length;
         reader.at += 2 + body.len();
-        from = done;
-        done += body.len();
+        from = done.bytes;
+        done.bytes += body.len();
+        done.lengths += 1;
     }
 }
 

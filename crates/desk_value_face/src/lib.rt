@@ -5,133 +5,103 @@
 // the desk does not allow, and the bench compares how the night ends with the lent desk and ggrs.
 #![tactic(auto)]
 
-ghost use Rattle.std.specs.Prelude.{◌≡◌, ◌+◌, ◌*◌, ◌<◌, ◌≤◌, length};
-ghost use Rattle.frame_info.specs.Frame.{last_count};
+ghost use Rattle.std.specs.Prelude.{◌≡◌, length};
 ghost use Rattle.desk_value.specs.Value as held;
 ghost use Rattle.desk_value_face.specs.Said.{said_words};
 
-use console::Console;
 use desk_value::Desk;
 use frame_info::LAST_COUNT;
-use frame_info::refusal::{FRAME_TOO_HIGH, NO_ROOM_FOR_BYTES};
+use frame_info::refusal::Refusal;
 
-// The night's limit, and how many frames late seat 1 is.
+// The night's limit and seats, and how many frames late seat 1 is.
 const LIMIT: u32 = 8;
 
-const LATE: u32 = 4;
+const SEATS: usize = 2;
 
-// `said` has the console's three numbers, how often and how far the night went back, every word
-// served drawn together, and how many calls were refused.
-const CORRECTIONS: usize = 3;
+const LATE: i32 = 4;
 
-const REPLAYED: usize = 4;
-
-const SERVED: usize = 5;
-
-const REFUSED: usize = 6;
-
+// How many numbers a night says.
 const SAID_WORDS: usize = 7;
 
-fn add(said: &mut [u32], at: usize, n: u32)
-    requires { at < length said.old }
-    ensures { length said.new ≡ length said.old }
-{
-    said[at] = std::num::wrapping_add_u32(said[at], n);
+// A night as it goes, on a desk that each call leaves whole.
+#[derive(Drop)]
+struct Night {
+    desk: Desk,
+    // How often and how far it went back.
+    corrections: u32,
+    replayed: u32,
+    // Every word served, drawn together.
+    served: u32,
+    // How many calls were refused.
+    refused: u32,
+    ghost whole: { held.Whole desk },
 }
 
-// One more of what is counted at a place, where n is not 0.
-fn mark(said: &mut [u32], at: usize, n: u32)
-    requires { at < length said.old }
-    ensures { length said.new ≡ length said.old }
-{
-    if n != 0 {
-        add(said, at, 1);
+impl Night {
+    // A fresh desk, and what is told so far.
+    fn open(said: &[u32; SAID_WORDS]) -> Night {
+        let [_, _, _, corrections, replayed, served, refused] = *said;
+        let opened = Desk::setup(LIMIT, 0, &[0; SEATS]);
+        Night {
+            desk: opened.desk,
+            corrections,
+            replayed,
+            served,
+            refused: refused.wrapping_add(u32::from(opened.refused.is_some())),
+        }
     }
-}
 
-fn draw(said: &mut [u32], word: u32)
-    requires { said_words ≤ length said.old }
-    ensures { length said.new ≡ length said.old }
-{
-    let drawn = said[SERVED];
-    said[SERVED] = (drawn << 1 | drawn >> 31) ^ word;
-}
-
-fn count(said: &mut [u32], again: u32, first: u32, second: u32)
-    requires { said_words ≤ length said.old }
-    ensures { length said.new ≡ length said.old }
-{
-    mark(said, CORRECTIONS, again);
-    add(said, REPLAYED, again);
-    draw(said, first);
-    draw(said, second);
-}
-
-// Seat 0's word for the frame, and seat 1's for the one that it is late by.
-fn take_words(desk: Desk, frame: u32, first: u32, second: u32, said: &mut [u32]) -> Desk
-    requires { held.Whole desk × (frame + 1 < last_count) × (said_words ≤ length said.old) }
-    ensures { held.Whole result × (length said.new ≡ length said.old) }
-{
-    let a = desk.take(0, frame as i32, first);
-    mark(said, REFUSED, a.no);
-    let once = a.desk;
-    if frame < LATE {
-        return once;
+    fn take(&mut self, seat: u32, frame: i32, word: u32) {
+        match self.desk.take(seat, frame, word) {
+            Ok(taken) => self.desk = taken.desk,
+            Err(_) => self.refused = self.refused.wrapping_add(1),
+        }
     }
-    let b = once.take(1, (frame - LATE) as i32, second);
-    mark(said, REFUSED, b.no);
-    b.desk
-}
 
-fn serve(desk: Desk, said: &mut [u32]) -> Desk
-    requires { held.Whole desk × (said_words ≤ length said.old) }
-    ensures { held.Whole result × (length said.new ≡ length said.old) }
-{
-    let a = desk.advance();
-    mark(said, REFUSED, a.no);
-    let report = a.report;
-    let served = a.served;
-    count(said, report.count, served[0], served[1]);
-    a.desk
-}
-
-// One frame of the night.
-fn turn(desk: Desk, frame: u32, first: u32, second: u32, said: &mut [u32]) -> Desk
-    requires { held.Whole desk × (frame + 1 < last_count) × (said_words ≤ length said.old) }
-    ensures { held.Whole result × (length said.new ≡ length said.old) }
-{
-    let taken = take_words(desk, frame, first, second, said);
-    serve(taken, said)
-}
-
-fn set_console(said: &mut [u32], console: Console)
-    requires { said_words ≤ length said.old }
-    ensures { length said.new ≡ length said.old }
-{
-    said[0] = console.head;
-    said[1] = console.kind;
-    said[2] = console.seal;
-}
-
-// A night whose lists are long enough.
-fn night(words: &[u32], frames: u32, said: &mut [u32]) -> u32
-    requires { (frames < last_count) × (2 * frames ≤ length words.now) × (said_words ≤ length said.old) }
-    ensures { length said.new ≡ length said.old }
-{
-    let delays = [0u32; 2];
-    let o = Desk::setup(LIMIT, 0, &delays);
-    mark(said, REFUSED, o.no);
-    let mut desk = o.desk;
-    let mut frame: u32 = 0;
-    while frame < frames {
-        let at = 2 * (frame as usize);
-        desk = turn(desk, frame, words[at], words[at + 1], said);
-        frame += 1;
+    fn draw(&mut self, word: u32) {
+        self.served = self.served.rotate_left(1) ^ word;
     }
-    let state = desk.state;
-    let console = state.console;
-    set_console(said, console);
-    said[REFUSED]
+
+    fn advance(&mut self) {
+        match self.desk.advance() {
+            Ok(advanced) => {
+                self.desk = advanced.desk;
+                let again = advanced.report.count;
+                self.corrections = self.corrections.wrapping_add(u32::from(again > 0));
+                self.replayed = self.replayed.wrapping_add(again);
+                for word in &advanced.served[..SEATS] {
+                    self.draw(*word);
+                }
+            }
+            Err(_) => self.refused = self.refused.wrapping_add(1),
+        }
+    }
+
+    // One frame: seat 0's word for it, and seat 1's for the one that it is late by.
+    fn turn(&mut self, frame: i32, words: &[u32; SEATS]) {
+        self.take(0, frame, words[0]);
+        if frame >= LATE {
+            self.take(1, frame - LATE, words[1]);
+        }
+        self.advance();
+    }
+
+    // The console's three numbers, how often and how far the night went back, every word served
+    // drawn together, and how many calls were refused.
+    fn told(&self) -> [u32; SAID_WORDS]
+        ensures { length result ≡ said_words }
+    {
+        let console = self.desk.console();
+        [
+            console.head,
+            console.kind,
+            console.seal,
+            self.corrections,
+            self.replayed,
+            self.served,
+            self.refused,
+        ]
+    }
 }
 
 // Two words a frame. Answers 6 where there are more frames than a reel has, 20 where a list is too
@@ -140,13 +110,18 @@ pub fn value_night(words: &[u32], frames: u32, said: &mut [u32]) -> u32
     ensures { length said.new ≡ length said.old }
 {
     if frames >= LAST_COUNT {
-        return FRAME_TOO_HIGH;
+        return Refusal::FrameTooHigh.number();
     }
-    if words.len() / 2 < frames as usize {
-        return NO_ROOM_FOR_BYTES;
+    if words.len() / SEATS < frames as usize {
+        return Refusal::NoRoomForBytes.number();
     }
-    if said.len() < SAID_WORDS {
-        return NO_ROOM_FOR_BYTES;
+    let Some(said) = said.first_chunk_mut() else {
+        return Refusal::NoRoomForBytes.number();
+    };
+    let mut night = Night::open(said);
+    for (frame, pair) in (0..frames as i32).zip(words.as_chunks().0) {
+        night.turn(frame, pair);
     }
-    night(words, frames, said)
+    *said = night.told();
+    night.refused
 }

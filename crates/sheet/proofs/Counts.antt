@@ -9,10 +9,8 @@ use lib.ListN.{length, get_or}
 use lib.Dec.{ltb, leb, eqb}
 use borrow.Author.Tests.{ltb-true, leb-true}
 use Rattle.frame_info.proofs.Picked.{picked_if}
-use Rattle.sheet.specs.declared.calls.Call.{Call}
-use Rattle.sheet.specs.declared.Line.{Line}
-use Rattle.sheet.specs.declared.Value.{Value}
-use Rattle.sheet.specs.declared.Value.TheVariants.{Is, Wrong}
+use Rattle.sheet.specs.Answer.{Line, Call}
+use Rattle.std.specs.Prelude.{Option, Some, None}
 use Rattle.sheet.specs.Fields.{fields_of}
 use Rattle.sheet.specs.Calls.{Row, row, calls, row_count, place_of, no_row, kind_at, value_of, BAD}
 use Rattle.sheet.specs.Reading.{Reading, alone, before, fields_from, called, fields_read, reading_of}
@@ -20,10 +18,10 @@ use Rattle.sheet.specs.Reading.{Reading, alone, before, fields_from, called, fie
 abbrev Few : ℕ → Reading → Type 0
 Few n r = r.line.count ≤ n
 
-kept : (v : Value) (r : Reading) (n : ℕ) → r.line.count ≤ n → (before v r).line.count ≤ n
+kept : (v : Option ℕ) (r : Reading) (n : ℕ) → r.line.count ≤ n → (before v r).line.count ≤ n
 unfolding before alone
-kept (Is v) r n h = h
-kept Wrong r n h = omega arith
+kept (Some v) r n h = h
+kept None r n h = omega arith
 
 fields_few : (c : Call) (fs : List (List ℕ)) (i : ℕ) → i ≤ c.most → (fields_from c i fs).line.count ≤ c.most
 unfolding fields_from alone

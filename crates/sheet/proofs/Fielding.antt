@@ -1,55 +1,23 @@
--- Laws of fields: where a run ends, and the field that begins at a place. Assumes nothing.
-use Prim.Native.Nat.{ℕ, suc, ◌+◌, ◌-◌, ◌<◌, ◌≤◌}
+-- Laws of fields: how far a run reaches, and the first field of what is left. Assumes nothing.
+use Prim.Native.Nat.{ℕ, suc, ◌+◌, ◌<◌, ◌≤◌}
 use native.Mathlib.Omega.{arith}
-use native.Mathlib.Numerals.{add-one}
+use Prim.{absurd}
 use mathlib.Core.Path.{◌≡◌, refl, ap, sym, ◌∙◌}
-use mathlib.Core.Bool.{Bool, true, false, not}
+use mathlib.Core.Bool.{Bool, true, false, not, cond}
 use mathlib.Core.Logic.{⊎_elim}
 use mathlib.Core.List.{List, [], ◌∷◌}
-use lib.ListN.{length, get_or, take, drop, drop_of_length-le, length-drop}
-use lib.Seq.{drop-cons, drop-drop, get_or-drop}
-use borrow.Author.Tests.{eq-eqb, ne_eqb}
+use lib.ListN.{length, get_or, take, drop}
+use borrow.Author.Tests.{ne_eqb}
+use Rattle.std.specs.Prelude.{Option, unwrap_or}
+use Rattle.std.specs.List.{position, position_or_len}
 use Rattle.frame_info.specs.Choice.{pick}
-use Rattle.frame_info.proofs.Split.{split_eqb}
+use Rattle.frame_info.proofs.Split.{split_eqb, split_ltb}
 use Rattle.sheet.specs.Fields.{longer, pieces, filled, fields_of}
-use Rattle.sheet.specs.Steps.{ends_run, run_of, run_end}
-
--- ---- a run, one byte at a time
-
-pub ends_space : (b : ℕ) (w : Bool) → b ≡ 32 → not w ≡ ends_run b w
-unfolding ends_run
-ends_space b w e = simp (eq-eqb b 32 e)
-
-pub ends_other : (b : ℕ) (w : Bool) → (b ≡ 32 → ⊥) → w ≡ ends_run b w
-unfolding ends_run
-ends_other b w e = simp (ne_eqb b 32 e)
-
-module _ (w t : Bool) (l : List ℕ) (i r : ℕ) (h : i < length l) (e : t ≡ ends_run (get_or l i 0) w) where
-  pub run_again : t ≡ false → run_end w l i ≡ r → run_end w l (i + 1) ≡ r
-  unfolding run_end run_of
-  run_again y q =
-      let z : ends_run (get_or l i 0) w ≡ false = sym e ∙ y in
-      let k : i + suc (run_of w (drop (suc i) l)) ≡ r = simp z at (rw (drop-cons l i 0 h) at q) in
-      rw (add-one i) (omega arith)
-
-  pub run_stops : t ≡ true → run_end w l i ≡ r → i ≡ r
-  unfolding run_end run_of
-  run_stops y q =
-      let z : ends_run (get_or l i 0) w ≡ true = sym e ∙ y in
-      let k : i + 0 ≡ r = simp z at (rw (drop-cons l i 0 h) at q) in
-      omega arith
-
-pub run_ends : (w : Bool) (l : List ℕ) (i r : ℕ) → length l ≤ i → run_end w l i ≡ r → i ≡ r
-unfolding run_end run_of
-run_ends w l i r h q =
-    let k : i + 0 ≡ r = rw (drop_of_length-le l h) at q in
-    omega arith
-
-pub ruleset runs = (ends_space, ends_other, run_again, run_stops, run_ends)
+use Rattle.sheet.specs.Steps.{ends_run, run_of}
 
 -- ---- how far a run reaches
 
-run_within : (w : Bool) (s : List ℕ) → run_of w s ≤ length s
+pub run_within : (w : Bool) (s : List ℕ) → run_of w s ≤ length s
 unfolding run_of
 run_within w [] = omega arith
 run_within w (b ∷ s) = by (ends_run b w) (run_within w s)
@@ -58,28 +26,33 @@ run_within w (b ∷ s) = by (ends_run b w) (run_within w s)
     by true h = omega arith
     by false h = omega arith
 
-pub end_within : (w : Bool) (l : List ℕ) (at r : ℕ) → at ≤ length l → r ≡ run_end w l at → r ≤ length l
-unfolding run_end
-end_within w l at r h e = omega (arith, run_within w (drop at l), length-drop at l)
+-- a run ends at the first byte that ends it, if any does
+first_end : (w : Bool) (s : List ℕ) → position_or_len (λ b. ends_run b w) s ≡ run_of w s
+unfolding run_of
+first_end w [] = refl
+first_end w (b ∷ s) = by (ends_run b w) (first_end w s)
+  where
+    by : {m n : ℕ} (t : Bool) → m ≡ n → cond (not t) (1 + m) 0 ≡ pick t 0 (suc n)
+    by true h = refl
+    by false h = omega arith
 
-pub end_after : (w : Bool) (l : List ℕ) (at r : ℕ) → r ≡ run_end w l at → at ≤ r
-unfolding run_end
-end_after w l at r e = omega arith
+pub run_found : (w : Bool) (s : List ℕ) (o : Option ℕ) (r : ℕ) → o ≡ position (λ b. ends_run b w) s → r ≡ unwrap_or o (length s) → r ≡ run_of w s
+run_found w s o r e q =
+    q ∙ ap (λ (x : Option ℕ). unwrap_or x (length s)) e
+    ∙ ⊎_elim
+    (λ k. simp k.1 (first_end w s))
+    (λ k. simp k.1 (omega (arith, k.0, first_end w s, run_within w s)))
+    (split_ltb (position_or_len (λ b. ends_run b w) s) (length s))
 
 -- past a run of spaces stands none
-run_next : (s : List ℕ) → run_of true s < length s → get_or s (run_of true s) 0 ≡ 32 → ⊥
+rest_starts : (s : List ℕ) → 0 < length (drop (run_of true s) s) → get_or (drop (run_of true s) s) 0 0 ≡ 32 → ⊥
 unfolding run_of ends_run
-run_next [] = λ h e. omega arith
-run_next (b ∷ s) =
+rest_starts [] = λ h e. omega arith
+rest_starts (b ∷ s) =
     ⊎_elim
-    (λ w. simp w.1 (λ h e. run_next s (omega arith) e))
+    (λ w. simp w.1 (rest_starts s))
     (λ w. simp w.1 (λ h e. w.0 e))
     (split_eqb b 32)
-
-pub skip_starts : (l : List ℕ) (from at : ℕ) → from ≤ length l → at ≡ run_end true l from → at < length l → get_or l at 0 ≡ 32 → ⊥
-unfolding run_end
-skip_starts l from at h e g b =
-    run_next (drop from l) (omega (arith, length-drop from l)) (rw get_or-drop (rw e at b))
 
 -- ---- fields
 
@@ -112,7 +85,7 @@ pieces_rest (b ∷ s) =
     (λ w. simp w.1 (ap filled (tail_longer b (pieces s)) ∙ pieces_rest s))
     (split_eqb b 32)
 
-pub fields_none : fields_of [] ≡ []
+fields_none : fields_of [] ≡ []
 unfolding fields_of pieces filled
 fields_none = refl
 
@@ -131,23 +104,38 @@ fields_skip (b ∷ s) =
     (λ w. simp w.1)
     (split_eqb b 32)
 
-pub fields_after : (l : List ℕ) (from at : ℕ) → at ≡ run_end true l from → fields_of (drop at l) ≡ fields_of (drop from l)
-unfolding run_end
-fields_after l from at e = rw (e, ← drop-drop (run_of true (drop from l)) from l) (fields_skip (drop from l))
+-- where no space stands at the front
+run_empty : (t : List ℕ) → (0 < length t → get_or t 0 0 ≡ 32 → ⊥) → length (take (run_of false t) t) ≡ 0 → t ≡ []
+unfolding run_of ends_run
+run_empty [] n h = refl
+run_empty (b ∷ t) n h =
+    let k : suc (length (take (run_of false t) t)) ≡ 0 = simp (ne_eqb b 32 (n (omega arith))) at h in
+    absurd (omega arith)
 
--- the field that begins at a place, and those after it
-pub field_next : (l : List ℕ) (at end next : ℕ) → at < length l → (get_or l at 0 ≡ 32 → ⊥) → end ≡ run_end false l at → next ≡ run_end true l end
-    → fields_of (drop at l) ≡ take (end - at) (drop at l) ∷ fields_of (drop next l)
-unfolding run_end
-field_next l at end next h b e n =
-    let s = drop at l in
-    let k : end - at ≡ run_of false s = omega arith in
-    let first : fields_of s ≡ take (run_of false s) s ∷ fields_of (drop (run_of false s) s) = rw (drop-cons l at 0 h) (fields_first (get_or l at 0) (drop (suc at) l) b) in
-    rw (k, fields_after l end next n, e, ← drop-drop (run_of false s) at l) first
+run_some : (t : List ℕ) → (0 < length t → get_or t 0 0 ≡ 32 → ⊥) → (length (take (run_of false t) t) ≡ 0 → ⊥) → fields_of t ≡ take (run_of false t) t ∷ fields_of (drop (run_of false t) t)
+unfolding run_of
+run_some [] n h = absurd (h refl)
+run_some (b ∷ t) n h = fields_first b t (n (omega arith))
 
--- it has a byte at least
-pub field_some : (l : List ℕ) (at end : ℕ) → at < length l → (get_or l at 0 ≡ 32 → ⊥) → end ≡ run_end false l at → at < end
-unfolding run_end run_of ends_run
-field_some l at end h b e =
-    let k : end ≡ at + suc (run_of false (drop (suc at) l)) = simp (ne_eqb (get_or l at 0) 32 b) at (rw (drop-cons l at 0 h) at e) in
-    omega arith
+-- the field that comes next, and what it leaves
+module _ (s t f r : List ℕ) (i k : ℕ) (a : i ≡ run_of true s) (b : t ≡ drop i s) (c : k ≡ run_of false t) (d : f ≡ take k t) (e : r ≡ drop k t) where
+  starts : 0 < length t → get_or t 0 0 ≡ 32 → ⊥
+  starts = rw (b, a) (rest_starts s)
+
+  skipped : fields_of s ≡ fields_of t
+  skipped = rw (b, a) (sym (fields_skip s))
+
+  none_left : length f ≡ 0 → t ≡ []
+  none_left h = run_empty t starts (rw (d, c) at h)
+
+  pub next_none : length f ≡ 0 → fields_of s ≡ []
+  next_none h = skipped ∙ rw (none_left h) fields_none
+
+  pub last_none : length f ≡ 0 → fields_of r ≡ []
+  unfolding run_of
+  last_none h = rw (e, c, none_left h) fields_none
+
+  pub next_some : (length f ≡ 0 → ⊥) → fields_of s ≡ f ∷ fields_of r
+  next_some h = skipped ∙ rw (d, e, c) (run_some t starts (rw (d, c) at h))
+
+pub ruleset fielding = (run_within, next_none, last_none, next_some)

@@ -14,12 +14,9 @@ use Rattle.frame_info.specs.Choice.{pick}
 use Rattle.frame_info.proofs.Picked.{picked, picked_if}
 use Rattle.frame_info.proofs.Split.{split_ltb}
 use Rattle.digits.specs.Digits.{decimal_of, signed_of, word_of}
-use Rattle.digits.specs.declared.Number.{Number}
-use Rattle.digits.specs.declared.Number.TheVariants.{Of, Not}
 use Rattle.digits.proofs.Bounds.{Small, decimal_small, signed_small, word_small}
-use Rattle.sheet.specs.declared.calls.Call.{Call}
-use Rattle.sheet.specs.declared.Value.{Value}
-use Rattle.sheet.specs.declared.Value.TheVariants.{Is, Wrong}
+use Rattle.sheet.specs.Answer.{Call}
+use Rattle.std.specs.Prelude.{Option, Some, None}
 use Rattle.sheet.specs.Fields.{longer, pieces, filled, fields_of}
 use Rattle.sheet.specs.Calls.{bytes_of, calls, row_count, place_of, no_row, same_text, kind_at, held, up_to, flag_of, status_of, is_hex, counted_of, value_of, BAD, PASSED, ON, NUMBER, FRAME, WORD, ROOM, LENS, LEN, FLAG, STATUS, BYTES}
 use Rattle.sheet.specs.Reading.{Reading, alone, before, fields_from, called, fields_read, reading_of, args_after}
@@ -93,43 +90,43 @@ unfoldable pub named : List (List ℕ) → Call
 named [] = no_row.call
 named (f ∷ fs) = (get_or calls (place_of f calls) no_row).call
 
-Below : ℕ → Value → Type 0
-Below n (Is v) = v < n
-Below n Wrong = 0 < 1
+Below : ℕ → Option ℕ → Type 0
+Below n (Some v) = v < n
+Below n None = 0 < 1
 
 module _ (n : ℕ) where
-  wrong_below : Below n Wrong
+  wrong_below : Below n None
   unfolding Below
   wrong_below = omega arith
 
-  is_below : (v : ℕ) → v < n → Below n (Is v)
+  is_below : (v : ℕ) → v < n → Below n (Some v)
   unfolding Below
   is_below v h = h
 
-  held_below : (m : Number) → 2 ^ 32 ≤ n → Small m → Below n (held m)
+  held_below : (m : Option ℕ) → 2 ^ 32 ≤ n → Small m → Below n (held m)
   unfolding held Below
-  held_below (Of v) h s = omega arith
-  held_below Not h s = omega arith
+  held_below (Some v) h s = omega arith
+  held_below None h s = omega arith
 
-  up_below : (most : ℕ) (m : Number) → 2 ^ 32 ≤ n → Small m → Below n (up_to most m)
+  up_below : (most : ℕ) (m : Option ℕ) → 2 ^ 32 ≤ n → Small m → Below n (up_to most m)
   unfolding up_to Below
-  up_below most (Of v) h s = picked (Below n) (leb v most) (Is v) Wrong (omega arith) (omega arith)
-  up_below most Not h s = omega arith
+  up_below most (Some v) h s = picked (Below n) (leb v most) (Some v) None (omega arith) (omega arith)
+  up_below most None h s = omega arith
 
   flag_below : (s : List ℕ) → 2 ^ 32 ≤ n → Below n (flag_of s)
   unfolding flag_of
-  flag_below s h = picked (Below n) (same_text s (bytes_of "0")) (Is 0) _ (is_below 0 (omega arith)) (picked (Below n) (same_text s (bytes_of "1")) (Is 1) Wrong (is_below 1 (omega arith)) wrong_below)
+  flag_below s h = picked (Below n) (same_text s (bytes_of "0")) (Some 0) _ (is_below 0 (omega arith)) (picked (Below n) (same_text s (bytes_of "1")) (Some 1) None (is_below 1 (omega arith)) wrong_below)
 
   counted_below : (s : List ℕ) → 2 ^ 32 ≤ n → length s ≤ 4096 → Below n (counted_of s)
   unfolding counted_of
   counted_below s h k =
-      picked (Below n) (same_text s (bytes_of "-")) (Is 0) _ (is_below 0 (omega arith)) (picked (Below n) (is_hex s) (Is (length s / 2)) Wrong (is_below (length s / 2) (omega arith)) wrong_below)
+      picked (Below n) (same_text s (bytes_of "-")) (Some 0) _ (is_below 0 (omega arith)) (picked (Below n) (is_hex s) (Some (length s / 2)) None (is_below (length s / 2) (omega arith)) wrong_below)
 
 status_below : (s : List ℕ) → Below (2 ^ 32 + 1) (status_of s)
 unfolding status_of
 status_below s =
-    picked (Below (2 ^ 32 + 1)) (same_text s (bytes_of "on")) (Is ON) _ (is_below (2 ^ 32 + 1) ON (omega arith))
-    (picked (Below (2 ^ 32 + 1)) (same_text (take 5 s) (bytes_of "gone:")) (held (signed_of (drop 5 s))) Wrong (held_below (2 ^ 32 + 1) (signed_of (drop 5 s)) (omega arith) (signed_small (drop 5 s)))
+    picked (Below (2 ^ 32 + 1)) (same_text s (bytes_of "on")) (Some ON) _ (is_below (2 ^ 32 + 1) ON (omega arith))
+    (picked (Below (2 ^ 32 + 1)) (same_text (take 5 s) (bytes_of "gone:")) (held (signed_of (drop 5 s))) None (held_below (2 ^ 32 + 1) (signed_of (drop 5 s)) (omega arith) (signed_small (drop 5 s)))
     (wrong_below (2 ^ 32 + 1)))
 
 module _ (n : ℕ) (h : 2 ^ 32 ≤ n) where
@@ -144,16 +141,16 @@ module _ (n : ℕ) (h : 2 ^ 32 ≤ n) where
       (picked (Below n) (eqb kind LEN) (up_to 65535 (decimal_of s)) _ (up_below n 65535 (decimal_of s) h (decimal_small s))
       (picked (Below n) (eqb kind FLAG) (flag_of s) _ (flag_below n s h)
       (picked_if (Below n) (eqb kind STATUS) (status_of s) _ (λ e. g (eqb-true kind STATUS e))
-      (picked (Below n) (eqb kind BYTES) (counted_of s) Wrong (counted_below n s h k) (wrong_below n)))))))))
+      (picked (Below n) (eqb kind BYTES) (counted_of s) None (counted_below n s h k) (wrong_below n)))))))))
 
   none_below : (k : ℕ) → get_or {A = ℕ} [] k 0 < n
   none_below k = omega arith
 
-  before_below : (u : Value) (r : Reading) (k : ℕ) → Below n u → ((j : ℕ) → get_or r.values j 0 < n) → get_or (before u r).values k 0 < n
+  before_below : (u : Option ℕ) (r : Reading) (k : ℕ) → Below n u → ((j : ℕ) → get_or r.values j 0 < n) → get_or (before u r).values k 0 < n
   unfolding before Below alone
-  before_below (Is v) r zero f g = f
-  before_below (Is v) r (suc k) f g = g k
-  before_below Wrong r k f g = none_below k
+  before_below (Some v) r zero f g = f
+  before_below (Some v) r (suc k) f g = g k
+  before_below None r k f g = none_below k
 
   module _ (k : ℕ) where
     alone_below : (call : ℕ) → get_or (alone call).values k 0 < n
@@ -223,10 +220,10 @@ module _ (n : ℕ) where
   unfolding alone
   few_alone call = omega arith
 
-few_before : (n : ℕ) (u : Value) (r : Reading) → r.line.count ≤ n + 1 + length r.values → (before u r).line.count ≤ n + length (before u r).values
+few_before : (n : ℕ) (u : Option ℕ) (r : Reading) → r.line.count ≤ n + 1 + length r.values → (before u r).line.count ≤ n + length (before u r).values
 unfolding before alone
-few_before n (Is v) r h = omega arith
-few_before n Wrong r h = omega arith
+few_before n (Some v) r h = omega arith
+few_before n None r h = omega arith
 
 fields_few : (c : Call) (i : ℕ) (fs : List (List ℕ)) → (fields_from c i fs).line.count ≤ i + length (fields_from c i fs).values
 unfolding fields_from

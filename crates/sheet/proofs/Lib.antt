@@ -1,6 +1,6 @@
+pub mod Texts
 pub mod Finding
 pub mod Fielding
-pub mod Holding
 pub mod Decoding
 pub mod Calling
 pub mod Handed

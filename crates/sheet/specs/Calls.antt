@@ -1,15 +1,11 @@
 -- The calls of a cue sheet: their numbers, names and fields. A call more is a row more.
-use Rattle.std.specs.Prelude.{ℕ, ◌+◌, ◌/◌, ◌%◌, Bool, true, false, ◌&&◌, List, [], ◌∷◌, length, get_or, take, drop, eqb, ltb, leb}
+use Rattle.std.specs.Prelude.{ℕ, ◌+◌, ◌/◌, ◌%◌, Bool, true, false, ◌&&◌, List, [], ◌∷◌, length, get_or, take, drop, eqb, ltb, leb, Option, Some, None}
 use Prim.Native.String.{String}
 use Prim.Native.String as text
 use Prim.Native.Char.{code}
 use Rattle.frame_info.specs.Choice.{pick}
 use Rattle.digits.specs.Digits.{only_digits, decimal_of, signed_of, word_of}
-use Rattle.digits.specs.declared.Number.{Number}
-use Rattle.digits.specs.declared.Number.TheVariants.{Of, Not}
-use Rattle.sheet.specs.declared.calls.Call.{Call}
-use Rattle.sheet.specs.declared.Value.{Value}
-use Rattle.sheet.specs.declared.Value.TheVariants.{Is, Wrong}
+use Rattle.sheet.specs.Answer.{Call}
 
 -- the bytes of a text of ASCII
 unfoldable pub bytes_of : String → List ℕ
@@ -66,40 +62,40 @@ abbrev pub BYTES : ℕ
 BYTES = 98
 
 -- a number is held as it is
-unfoldable pub held : Number → Value
-held (Of n) = Is n
-held Not = Wrong
+unfoldable pub held : Option ℕ → Option ℕ
+held (Some n) = Some n
+held None = None
 
 -- a number of at most so much is held as it is
-unfoldable pub up_to : ℕ → Number → Value
-up_to most (Of n) = pick (leb n most) (Is n) Wrong
-up_to most Not = Wrong
+unfoldable pub up_to : ℕ → Option ℕ → Option ℕ
+up_to most (Some n) = pick (leb n most) (Some n) None
+up_to most None = None
 
 -- one character, `0` or `1`
-unfoldable pub flag_of : List ℕ → Value
-flag_of s = pick (same_text s (bytes_of "0")) (Is 0) (pick (same_text s (bytes_of "1")) (Is 1) Wrong)
+unfoldable pub flag_of : List ℕ → Option ℕ
+flag_of s = pick (same_text s (bytes_of "0")) (Some 0) (pick (same_text s (bytes_of "1")) (Some 1) None)
 
 -- a seat that is on: above every frame's pattern
 abbrev pub ON : ℕ
 ON = 4294967296
 
 -- `on`, or `gone:` and then any i32, held as its pattern
-unfoldable pub status_of : List ℕ → Value
+unfoldable pub status_of : List ℕ → Option ℕ
 status_of s =
-    pick (same_text s (bytes_of "on")) (Is ON)
+    pick (same_text s (bytes_of "on")) (Some ON)
     (pick (same_text (take 5 s) (bytes_of "gone:")) (held (signed_of (drop 5 s)))
-    Wrong)
+    None)
 
 -- an even number of hex digits, two at least
 unfoldable pub is_hex : List ℕ → Bool
 is_hex s = ltb 0 (length s) && (eqb (length s % 2) 0 && only_digits 16 s)
 
 -- `-` for no byte, or two hex digits for each
-unfoldable pub counted_of : List ℕ → Value
-counted_of s = pick (same_text s (bytes_of "-")) (Is 0) (pick (is_hex s) (Is (length s / 2)) Wrong)
+unfoldable pub counted_of : List ℕ → Option ℕ
+counted_of s = pick (same_text s (bytes_of "-")) (Some 0) (pick (is_hex s) (Some (length s / 2)) None)
 
 -- what a field holds, by its kind
-unfoldable pub value_of : ℕ → List ℕ → Value
+unfoldable pub value_of : ℕ → List ℕ → Option ℕ
 value_of kind s =
     pick (eqb kind NUMBER) (held (decimal_of s))
     (pick (eqb kind FRAME) (held (signed_of s))
@@ -110,7 +106,7 @@ value_of kind s =
     (pick (eqb kind FLAG) (flag_of s)
     (pick (eqb kind STATUS) (status_of s)
     (pick (eqb kind BYTES) (counted_of s)
-    Wrong))))))))
+    None))))))))
 
 -- ---- the table
 

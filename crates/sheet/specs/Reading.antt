@@ -1,11 +1,8 @@
 -- What a line asks for: which call, how many fields, and what they hold.
-use Rattle.std.specs.Prelude.{ℕ, ◌+◌, List, [], ◌∷◌, length, get_or, eqb, ltb, leb}
+use Rattle.std.specs.Prelude.{ℕ, ◌+◌, List, [], ◌∷◌, length, get_or, eqb, ltb, leb, Option, Some, None}
 use Rattle.std.proofs.lemmas.List.Edits.{sets}
 use Rattle.frame_info.specs.Choice.{pick}
-use Rattle.sheet.specs.declared.Line.{Line}
-use Rattle.sheet.specs.declared.calls.Call.{Call}
-use Rattle.sheet.specs.declared.Value.{Value}
-use Rattle.sheet.specs.declared.Value.TheVariants.{Is, Wrong}
+use Rattle.sheet.specs.Answer.{Line, Call}
 use Rattle.sheet.specs.Fields.{fields_of}
 use Rattle.sheet.specs.Calls.{calls, row_count, place_of, no_row, kind_at, value_of, BAD, PASSED}
 
@@ -19,9 +16,9 @@ unfoldable pub alone : ℕ → Reading
 alone call = record { line = record { call = call; count = 0 }; values = [] }
 
 -- a field is of its kind: its value comes first; else the line is bad
-unfoldable pub before : Value → Reading → Reading
-before (Is v) r = record { line = r.line; values = v ∷ r.values }
-before Wrong r = alone BAD
+unfoldable pub before : Option ℕ → Reading → Reading
+before (Some v) r = record { line = r.line; values = v ∷ r.values }
+before None r = alone BAD
 
 -- the fields of a call from field i on. A missing field, an extra one and one that is not of its kind make the line bad;
 -- the values are those of the fields before the first that is extra or not of its kind

@@ -1,137 +1,165 @@
-// The table of calls. A call more is a number among NUMBERS and a row of the table here, and a row in
-// specs/Calls.antt.
+// The table of calls. A call more is a variant of its part's calls and a row of the table here, and a
+// row in specs/Calls.antt and a number in specs/Said.antt.
 
-// A line that gets no answer, and one that is answered `bad`.
-pub const PASSED: u32 = 4294967294;
+#[derive(Clone, Copy, Debug, PartialEq, Eq)]
+pub enum QueueCall {
+    Open,
+    Add,
+    Request,
+    Confirmed,
+    Discard,
+    Reset,
+    Delay,
+    Wrong,
+}
 
-pub const BAD: u32 = 4294967295;
+#[derive(Clone, Copy, Debug, PartialEq, Eq)]
+pub enum LayerCall {
+    Open,
+    Local,
+    Remote,
+    Save,
+    Load,
+    Advance,
+    Request,
+    Confirmed,
+    Confirm,
+    Consistent,
+    Saved,
+    Latest,
+    Delay,
+    Reset,
+    Now,
+}
 
-// Each part has 64 numbers from its first call's on, so that a call more renumbers nothing. The part's own
-// crate names its calls.
-pub const QUEUE: u32 = 0;
+#[derive(Clone, Copy, Debug, PartialEq, Eq)]
+pub enum SyncCall {
+    Open,
+    Advance,
+    Average,
+    Averages,
+    Reading,
+}
 
-pub const LAYER: u32 = 64;
+#[derive(Clone, Copy, Debug, PartialEq, Eq)]
+pub enum DeltaCall {
+    Pack,
+    Unpack,
+}
 
-pub const SYNC: u32 = 128;
+#[derive(Clone, Copy, Debug, PartialEq, Eq)]
+pub enum DeskCall {
+    Open,
+    Take,
+    Settle,
+    Advance,
+    Show,
+    Log,
+    Now,
+}
 
-pub const DELTA: u32 = 192;
-
-pub const DESK: u32 = 256;
+// A call, by its part.
+#[derive(Clone, Copy, Debug, PartialEq, Eq)]
+pub enum Call {
+    Queue(QueueCall),
+    Layer(LayerCall),
+    Sync(SyncCall),
+    Delta(DeltaCall),
+    Desk(DeskCall),
+}
 
 // The kinds of fields.
-pub const NUMBER: u8 = b'n';
+#[derive(Clone, Copy, Debug, PartialEq, Eq)]
+pub enum Kind {
+    // No field stands there.
+    Unused,
+    // A decimal u32.
+    Number,
+    // A decimal i32, held as its pattern.
+    Frame,
+    // 1 to 8 hex digits.
+    Word,
+    // A decimal number of at most 4,096.
+    Room,
+    // How many lengths are lent: at most 512.
+    Lens,
+    // A length of at most 65,535.
+    Len,
+    // `0` or `1`.
+    Flag,
+    // `on`, or `gone:` and a frame.
+    Status,
+    // `-` for none, or two hex digits for each, held as their number.
+    Bytes,
+}
 
-pub const FRAME: u8 = b'f';
-
-pub const WORD: u8 = b'w';
-
-pub const ROOM: u8 = b'r';
-
-pub const LENS: u8 = b'k';
-
-pub const LEN: u8 = b'l';
-
-pub const FLAG: u8 = b'x';
-
-pub const STATUS: u8 = b's';
-
-pub const BYTES: u8 = b'b';
-
-// What a STATUS field holds for a seat that is on: above every frame's pattern.
-pub const ON: u64 = 4294967296;
+// What a Status field holds for a seat that is on: above every frame's pattern.
+// Kept: a number, since the values of a line's fields are one list of numbers in the promise of
+// `read_line` (`args_after`).
+pub const ON: u64 = 4_294_967_296;
 
 // What follows a call's name: the least and the most number of fields, and the kinds of the first
 // four. Every later field is of the fourth kind.
-#[derive(Clone, Copy)]
-pub struct Call {
-    pub number: u32,
+#[derive(Clone, Copy, Debug, PartialEq, Eq)]
+pub struct Row {
+    pub call: Call,
     pub least: u32,
     pub most: u32,
-    pub kinds: [u8; 4],
+    pub kinds: [Kind; 4],
 }
 
-pub const ROWS: usize = 37;
+// As many fields as a line can hold after a name.
+pub const MANY: u32 = 2047;
 
-pub const NUMBERS: [u32; ROWS] = [
-    QUEUE,
-    QUEUE + 1,
-    QUEUE + 2,
-    QUEUE + 3,
-    QUEUE + 4,
-    QUEUE + 5,
-    QUEUE + 6,
-    QUEUE + 7,
-    LAYER,
-    LAYER + 1,
-    LAYER + 2,
-    LAYER + 3,
-    LAYER + 4,
-    LAYER + 5,
-    LAYER + 6,
-    LAYER + 7,
-    LAYER + 8,
-    LAYER + 9,
-    LAYER + 10,
-    LAYER + 11,
-    LAYER + 12,
-    LAYER + 13,
-    LAYER + 14,
-    SYNC,
-    SYNC + 1,
-    SYNC + 2,
-    SYNC + 3,
-    SYNC + 4,
-    DELTA,
-    DELTA + 1,
-    DESK,
-    DESK + 1,
-    DESK + 2,
-    DESK + 3,
-    DESK + 4,
-    DESK + 5,
-    DESK + 6,
+// A row of the table in one line: its name, and the fields of its `Row`.
+macro_rules! row {
+    ($name:literal, $part:ident $call:path, $least:tt to $most:tt: $a:ident $b:ident $c:ident $d:ident) => {
+        (
+            $name,
+            Call::$part($call),
+            $least,
+            $most,
+            [Kind::$a, Kind::$b, Kind::$c, Kind::$d],
+        )
+    };
+}
+
+pub static TABLE: [(&[u8], Call, u32, u32, [Kind; 4]); 37] = [
+    row!(b"queue", Queue QueueCall::Open, 2 to 2: Number Number Unused Unused),
+    row!(b"q.add", Queue QueueCall::Add, 2 to 2: Frame Word Unused Unused),
+    row!(b"q.request", Queue QueueCall::Request, 1 to 1: Frame Unused Unused Unused),
+    row!(b"q.confirmed", Queue QueueCall::Confirmed, 1 to 1: Frame Unused Unused Unused),
+    row!(b"q.discard", Queue QueueCall::Discard, 1 to 1: Frame Unused Unused Unused),
+    row!(b"q.reset", Queue QueueCall::Reset, 0 to 0: Unused Unused Unused Unused),
+    row!(b"q.delay", Queue QueueCall::Delay, 1 to 1: Number Unused Unused Unused),
+    row!(b"q.wrong", Queue QueueCall::Wrong, 0 to 0: Unused Unused Unused Unused),
+    row!(b"layer", Layer LayerCall::Open, 2 to MANY: Number Number Number Number),
+    row!(b"l.local", Layer LayerCall::Local, 3 to 3: Number Frame Word Unused),
+    row!(b"l.remote", Layer LayerCall::Remote, 3 to 3: Number Frame Word Unused),
+    row!(b"l.save", Layer LayerCall::Save, 3 to 3: Word Word Word Unused),
+    row!(b"l.load", Layer LayerCall::Load, 1 to 1: Frame Unused Unused Unused),
+    row!(b"l.advance", Layer LayerCall::Advance, 0 to 0: Unused Unused Unused Unused),
+    row!(b"l.request", Layer LayerCall::Request, 0 to MANY: Status Status Status Status),
+    row!(b"l.confirmed", Layer LayerCall::Confirmed, 1 to MANY: Frame Status Status Status),
+    row!(b"l.confirm", Layer LayerCall::Confirm, 2 to 2: Frame Flag Unused Unused),
+    row!(b"l.consistent", Layer LayerCall::Consistent, 0 to 0: Unused Unused Unused Unused),
+    row!(b"l.saved", Layer LayerCall::Saved, 1 to 1: Frame Unused Unused Unused),
+    row!(b"l.latest", Layer LayerCall::Latest, 2 to 2: Frame Frame Unused Unused),
+    row!(b"l.delay", Layer LayerCall::Delay, 2 to 2: Number Number Unused Unused),
+    row!(b"l.reset", Layer LayerCall::Reset, 0 to 0: Unused Unused Unused Unused),
+    row!(b"l.now", Layer LayerCall::Now, 0 to 0: Unused Unused Unused Unused),
+    row!(b"sync", Sync SyncCall::Open, 0 to 0: Unused Unused Unused Unused),
+    row!(b"s.advance", Sync SyncCall::Advance, 3 to 3: Frame Frame Frame Unused),
+    row!(b"s.average", Sync SyncCall::Average, 0 to 0: Unused Unused Unused Unused),
+    row!(b"s.averages", Sync SyncCall::Averages, 0 to 0: Unused Unused Unused Unused),
+    row!(b"s.reading", Sync SyncCall::Reading, 0 to 0: Unused Unused Unused Unused),
+    row!(b"pack", Delta DeltaCall::Pack, 3 to MANY: Room Bytes Bytes Len),
+    row!(b"unpack", Delta DeltaCall::Unpack, 4 to 4: Room Lens Bytes Bytes),
+    row!(b"desk", Desk DeskCall::Open, 2 to MANY: Number Number Number Number),
+    row!(b"take", Desk DeskCall::Take, 3 to 3: Number Frame Word Unused),
+    row!(b"settle", Desk DeskCall::Settle, 0 to 0: Unused Unused Unused Unused),
+    row!(b"advance", Desk DeskCall::Advance, 0 to 0: Unused Unused Unused Unused),
+    row!(b"show", Desk DeskCall::Show, 1 to 1: Frame Unused Unused Unused),
+    row!(b"log", Desk DeskCall::Log, 2 to 2: Frame Room Unused Unused),
+    row!(b"now", Desk DeskCall::Now, 0 to 0: Unused Unused Unused Unused),
 ];
-
-// A row has 13 bytes for the name, which a space ends, 4 for the kinds, with a dot for none, and one
-// each for the least and the most number of fields: a digit, or a star for as many as a line holds.
-pub const WIDTH: usize = 19;
-
-pub const TABLE: [u8; ROWS * WIDTH] = *b"\
-queue        nn..22\
-q.add        fw..22\
-q.request    f...11\
-q.confirmed  f...11\
-q.discard    f...11\
-q.reset      ....00\
-q.delay      n...11\
-q.wrong      ....00\
-layer        nnnn2*\
-l.local      nfw.33\
-l.remote     nfw.33\
-l.save       www.33\
-l.load       f...11\
-l.advance    ....00\
-l.request    ssss0*\
-l.confirmed  fsss1*\
-l.confirm    fx..22\
-l.consistent ....00\
-l.saved      f...11\
-l.latest     ff..22\
-l.delay      nn..22\
-l.reset      ....00\
-l.now        ....00\
-sync         ....00\
-s.advance    fff.33\
-s.average    ....00\
-s.averages   ....00\
-s.reading    ....00\
-pack         rbbl3*\
-unpack       rkbb44\
-desk         nnnn2*\
-take         nfw.33\
-settle       ....00\
-advance      ....00\
-show         f...11\
-log          fr..22\
-now          ....00\
-";

@@ -9,14 +9,14 @@ loop-length-init c = scanned_none c.new-reader.result (ap (λ (b : Bor (List ℕ
 pub returns-in_err-length : goal.returns-in_err-length
 returns-in_err-length c =
     let p = err_from_is_err_and c.from_residual.result c.from_residual.ensures.1 in
-    rw (p.1, p.2) (scanned_broken c.loop-length.invariant _ c.next_record.ensures _ c.in_err-length.ensures.length)
+    rw (p.1, p.2) (scanned_broken c.loop-length.invariant _ c.next_record.ensures _ c.in_err-length.ensures.value)
 
 pub loop-length-smaller : goal.loop-length-smaller
 loop-length-smaller c =
-    omega (arith, scanned_fits c.loop-length.invariant _ c.next_record.ensures _ (rw c.in-Some.is at c.in_ok-length.ensures.length))
+    omega (arith, scanned_fits c.loop-length.invariant _ c.next_record.ensures _ (rw c.in-Some.is at c.in_ok-length.ensures.value))
 
 pub loop-length-preserved : goal.loop-length-preserved
-loop-length-preserved c = scanned_one c.loop-length.invariant _ c.next_record.ensures _ (rw c.in-Some.is at c.in_ok-length.ensures.length)
+loop-length-preserved c = scanned_one c.loop-length.invariant _ c.next_record.ensures _ (rw c.in-Some.is at c.in_ok-length.ensures.value)
 
 pub returns : goal.returns
-returns c = scanned_end c.loop-length.invariant _ c.next_record.ensures (rw c.in_default.is at c.in_ok-length.ensures.length)
+returns c = scanned_end c.loop-length.invariant _ c.next_record.ensures (rw c.in_default.is at c.in_ok-length.ensures.value)

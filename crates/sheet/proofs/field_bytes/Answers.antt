@@ -1,18 +1,18 @@
-use Rattle.sheet.proofs.Decoding.{fielded}
-use borrow.Author.Rules.{rules}
+use Rattle.std.proofs.lemmas.Iterator.Consumers.{YieldsList-from_first, nth_from_yields_List}
+use mathlib.Core.Path.{refl}
+use lib.ListN.{length}
+use Rattle.sheet.specs.Fields.{fields_of}
+use Rattle.sheet.proofs.Decoding.{some_bytes, none_bytes}
 use Rattle.sheet.proofs.field_bytes.Goals as goal
 
-pub run_end-end-requires : goal.run_end-end-requires
-run_end-end-requires c = search (rules, fielded)
+pub returns-in-Some : goal.returns-in-Some
+returns-in-Some c =
+    let line = c.args.line.now in
+    let e = nth_from_yields_List c.nth.result c.nth.new.self c.args.field c.nth.ensures.ran (YieldsList-from_first (λ f. f.now) (λ fs. fields_of fs.rest.now) (fields_of line) refl) in
+    rw (some_bytes (length c.args.out.now) line c.args.field c.nth.result e c.in-Some.field c.in-Some.is) c.put_bytes.ensures
 
-pub slice_bounds-put_bytes-count : goal.slice_bounds-put_bytes-count
-slice_bounds-put_bytes-count c = search (rules, fielded)
-
-pub slice_bounds-put_bytes-start : goal.slice_bounds-put_bytes-start
-slice_bounds-put_bytes-start c = search (rules, fielded)
-
-pub slice_bounds-put_bytes-end : goal.slice_bounds-put_bytes-end
-slice_bounds-put_bytes-end c = search (rules, fielded)
-
-pub returns : goal.returns
-returns c = search (rules, fielded)
+pub returns-in-None : goal.returns-in-None
+returns-in-None c =
+    let line = c.args.line.now in
+    let e = nth_from_yields_List c.nth.result c.nth.new.self c.args.field c.nth.ensures.ran (YieldsList-from_first (λ f. f.now) (λ fs. fields_of fs.rest.now) (fields_of line) refl) in
+    rw (none_bytes (length c.args.out.now) line c.args.field c.nth.result e c.in-None.is) (refl, refl)

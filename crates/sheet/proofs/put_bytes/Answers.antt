@@ -1,15 +1,19 @@
-use Rattle.sheet.proofs.Decoding.{bytes}
+use Rattle.sheet.proofs.Decoding.{chunks, all_stored, all_count, all_out}
 use borrow.Author.Rules.{rules}
 use Rattle.sheet.proofs.put_bytes.Goals as goal
 
-pub returns-then-out-count : goal.returns-then-out-count
-returns-then-out-count c = search (rules, bytes)
+pub byte_of-requires : goal.byte_of-requires
+byte_of-requires c = let next = c.in-Some.ensures.steps in search (rules, chunks)
 
-pub put_pairs-requires : goal.put_pairs-requires
-put_pairs-requires c = search (rules, bytes)
-
-pub returns-then-is_hex : goal.returns-then-is_hex
-returns-then-is_hex c = search (rules, bytes)
+pub loop-i-preserved : goal.loop-i-preserved
+loop-i-preserved c =
+    let next = c.in-Some.ensures.steps in
+    record {
+      two = search (rules, chunks);
+      digits = search (rules, chunks);
+      room = search (rules, chunks);
+      stored = search (rules, chunks);
+    }
 
 pub returns : goal.returns
-returns c = search (rules, bytes)
+returns c = let last = c.in-None.ensures.steps in search (rules, all_stored, all_count, all_out)
