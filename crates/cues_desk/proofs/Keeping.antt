@@ -1,5 +1,5 @@
 -- Every call keeps a desk by value whole. Assumes nothing.
-use Prim.Native.Nat.{ℕ, ◌+◌, ◌*◌, ◌≤◌}
+use Prim.Native.Nat.{ℕ, ◌+◌, ◌-◌, ◌*◌, ◌≤◌}
 use Prim.{absurd}
 use native.Mathlib.Omega.{arith}
 use mathlib.Core.Path.{◌≡◌, sym, ap, ◌∙◌}
@@ -7,10 +7,13 @@ use mathlib.Core.Logic.{⊎_elim}
 use mathlib.Core.List.{List}
 use lib.IntN.{ℤ}
 use lib.ListN.{length}
+use Rattle.std.specs.Prelude.{Result, Ok}
+use Rattle.frame_info.specs.declared.refusal.Refusal.{Refusal}
 use Rattle.frame_info.proofs.Split.{split_eqb}
 use Rattle.frame_info.specs.Frame.{count_of}
 use Rattle.sync_layer.specs.Seats.{max_seats}
 use Rattle.desk.specs.Answer.{Logged}
+use Rattle.desk.specs.Said.{logged_said}
 use Rattle.desk.specs.Desk as m
 use Rattle.desk.specs.Calls.{log_answer, log_says}
 use Rattle.desk.specs.Runs.{take_call, settle_call, advance_call}
@@ -44,10 +47,14 @@ log_length d f l n e =
     (λ a. absurd (a.0 (sym (ap (λ (g : Logged). g.no) e ∙ simp a.1))))
     (split_eqb (log_answer d (count_of f) (length l)) 0)
 
-pub log_within : (y : Desk) → held.Whole y → (f : ℤ) (l : List ℕ) (n : ℕ) → record { no = 0; count = n } ≡ log_says (held.lent y) f l → (1 ≤ n) × (n ≤ 54)
-log_within y h f l n e =
-    let k : n ≡ 9 * (y.state.seats + 2) = log_length (held.lent y) f l n e in
-    let s : y.state.seats ≤ 4 = h.seated.ready.few in
-    (omega arith, omega arith)
+module _ (y : Desk) (h : held.Whole y) (f : ℤ) (l : List ℕ) (r : Result ℕ Refusal) (e : logged_said r ≡ log_says (held.lent y) f l) (n : ℕ) (d : r ≡ Ok n) where
+  line_is : n ≡ 9 * (y.state.seats + 2)
+  line_is = log_length (held.lent y) f l n (rw d at e)
+
+  pub line_some : 1 ≤ n
+  line_some = omega (arith, line_is)
+
+  pub line_few : n - 1 ≤ 53
+  line_few = let s : y.state.seats ≤ 4 = h.seated.ready.few in omega (arith, line_is)
 
 pub ruleset keeping = (held_opened_whole, take_kept, settle_kept, advance_kept, few_seats)

@@ -1,11 +1,9 @@
-use Rattle.cues_desk.proofs.Keeping.{log_within}
-use native.Mathlib.Omega.{arith}
+use Rattle.cues_desk.proofs.Keeping.{line_some, line_few}
+use borrow.Author.Rules.{rules}
 use Rattle.cues_desk.proofs.log_into.Goals as goal
 
 pub overflow_sub-result : goal.overflow_sub-result
-overflow_sub-result c = (log_within _ c.requires _ _ _ c.in_ok-count.ensures.0).0
+overflow_sub-result c = line_some _ c.requires _ _ _ c.log.ensures.0 _ (search rules)
 
 pub returns : goal.returns
-returns c =
-    let k = log_within _ c.requires _ _ _ c.in_ok-count.ensures.0 in
-    omega (arith, k.1)
+returns c = line_few _ c.requires _ _ _ c.log.ensures.0 _ (search rules)
