@@ -1,163 +1,116 @@
-// The calls of the desk in force, by value: each makes its call and tells its answer.
-#![tactic(auto)]
+// The calls of the desk in force, by value: each makes its call and tells its answer. One that is refused leaves the desk as it was.
+#![tactic(auto, using(crate::proofs::Keeping::keeping))]
 
 mod rows;
 
-ghost use Rattle.std.specs.Prelude.{◌≡◌, ◌+◌, ◌≤◌, ◌<◌, length};
+ghost use Rattle.std.specs.Prelude.{◌+◌, ◌≤◌, length, IfOk};
 ghost use Rattle.desk_value.specs.Value.{Whole};
 
 use cues_text::{
-    frame_arg, number_arg, put_frame_value, put_number, put_state_value, tell_frame, tell_number,
+    Fields, Told, put_frame_value, put_number, put_state_value, tell_frame, tell_refusal,
+    tell_setup,
 };
 use desk_value::Desk;
+use frame_info::refusal::Refusal;
 use rows::{put_report, tell_served, tell_shown};
-
-// The desk's calls, by their numbers within the part.
-const OPEN: u32 = 0;
-
-const TAKE: u32 = 1;
-
-const SETTLE: u32 = 2;
-
-const ADVANCE: u32 = 3;
-
-const SHOW: u32 = 4;
-
-const LOG: u32 = 5;
-
-// What a call leaves: the desk, and where its answer ends.
-#[derive(Clone, Copy)]
-pub struct Told {
-    pub desk: Desk,
-    pub at: usize,
-}
-
-// Lists that a call needs for a while. Each says its length alone, which is all that lending it asks.
-fn number_buffer() -> [u32; 2048]
-    ensures { 2048 ≡ length result }
-{
-    [0u32; 2048]
-}
-
-fn byte_buffer() -> [u8; 4096]
-    ensures { 4096 ≡ length result }
-{
-    [0u8; 4096]
-}
-
-// The fields after the first two, one delay for each seat. Answers how many.
-fn read_delays(count: usize, args: &[u64], delays: &mut [u32]) -> usize
-    requires { (count ≤ length args.now) × (count ≤ length delays.old) × (count < 2048) }
-    ensures { result ≤ length delays.new }
-{
-    let mut n: usize = 0;
-    while n + 2 < count {
-        delays[n] = number_arg(args, n + 2);
-        n += 1;
-    }
-    n
-}
+use sheet::calls::DeskCall;
 
 // desk LIMIT PREDICTOR DELAY..
-fn open(count: u32, args: &[u64], out: &mut [u8], at: usize) -> Told
-    requires { (2048 ≤ length args.now) × (count < 2048) × (at + 192 ≤ length out.old) }
-    ensures { Whole result.desk × (result.at ≤ at + 191) }
+fn open(fields: &Fields, out: &mut [u8], at: usize) -> Told<Desk>
+    requires { at + 192 ≤ length out.old }
+    ensures { Whole result.part × (result.at ≤ at + 191) }
 {
-    let mut delays = number_buffer();
-    let n = read_delays(count as usize, args, &mut delays);
-    let o = Desk::setup(number_arg(args, 0), number_arg(args, 1), &delays[..n]);
-    let end = tell_number(out, at, o.no);
-    let next = o.desk;
+    let mut delays = [0u32; 2048];
+    let n = fields.numbers(2, &mut delays);
+    let opened = Desk::setup(fields.number(0), fields.number(1), &delays[..n]);
     Told {
-        desk: next,
-        at: end,
+        part: opened.desk,
+        at: tell_setup(out, at, opened.refused),
     }
 }
 
 // take SEAT FRAME WORD
-fn take(args: &[u64], desk: Desk, out: &mut [u8], at: usize) -> Told
-    requires { Whole desk × (2048 ≤ length args.now) × (at + 192 ≤ length out.old) }
-    ensures { Whole result.desk × (result.at ≤ at + 191) }
+fn take(fields: &Fields, desk: Desk, out: &mut [u8], at: usize) -> Told<Desk>
+    requires { Whole desk × (at + 192 ≤ length out.old) }
+    ensures { Whole result.part × (result.at ≤ at + 191) }
 {
-    let t = desk.take(number_arg(args, 0), frame_arg(args, 1), number_arg(args, 2));
-    let end = tell_frame(out, at, t.no, t.place);
-    let next = t.desk;
-    Told {
-        desk: next,
-        at: end,
+    match desk.take(fields.number(0), fields.frame(1), fields.number(2)) {
+        Ok(taken) => Told {
+            part: taken.desk,
+            at: tell_frame(out, at, taken.place),
+        },
+        Err(refusal) => Told {
+            part: desk,
+            at: tell_refusal(out, at, refusal),
+        },
     }
 }
 
 // settle
-fn settle(desk: Desk, out: &mut [u8], at: usize) -> Told
+fn settle(desk: Desk, out: &mut [u8], at: usize) -> Told<Desk>
     requires { Whole desk × (at + 192 ≤ length out.old) }
-    ensures { Whole result.desk × (result.at ≤ at + 191) }
+    ensures { Whole result.part × (result.at ≤ at + 191) }
 {
-    let s = desk.settle();
+    let settled = desk.settle();
     let zero = put_number(out, at, 0);
-    let end = put_report(out, zero, s.report);
-    let next = s.desk;
     Told {
-        desk: next,
-        at: end,
+        part: settled.desk,
+        at: put_report(out, zero, settled.report),
     }
 }
 
 // advance. A desk keeps its number of seats, so that the one before the call says how many were served.
-fn advance(desk: Desk, out: &mut [u8], at: usize) -> Told
+fn advance(desk: Desk, out: &mut [u8], at: usize) -> Told<Desk>
     requires { Whole desk × (at + 192 ≤ length out.old) }
-    ensures { Whole result.desk × (result.at ≤ at + 191) }
+    ensures { Whole result.part × (result.at ≤ at + 191) }
 {
-    let a = desk.advance();
-    let end = tell_served(out, at, a, desk.seats() as usize);
-    let next = a.desk;
-    Told {
-        desk: next,
-        at: end,
+    match desk.advance() {
+        Ok(advanced) => Told {
+            part: advanced.desk,
+            at: tell_served(out, at, advanced, desk.seats() as usize),
+        },
+        Err(refusal) => Told {
+            part: desk,
+            at: tell_refusal(out, at, refusal),
+        },
     }
 }
 
 // show FRAME
-fn show(args: &[u64], desk: Desk, out: &mut [u8], at: usize) -> usize
-    requires { Whole desk × (2048 ≤ length args.now) × (at + 192 ≤ length out.old) }
+fn show(fields: &Fields, desk: Desk, out: &mut [u8], at: usize) -> usize
+    requires { Whole desk × (at + 192 ≤ length out.old) }
     ensures { result ≤ at + 191 }
 {
-    let s = desk.show(frame_arg(args, 0));
-    tell_shown(out, at, s, desk.seats() as usize)
-}
-
-// How many bytes are lent for a log line: no more than there are.
-fn room_for(args: &[u64]) -> usize
-    requires { 2048 ≤ length args.now }
-    ensures { result ≤ 4096 }
-{
-    frame_info::lesser(number_arg(args, 1), 4096) as usize
-}
-
-// log FRAME ROOM
-fn log(args: &[u64], desk: Desk, out: &mut [u8], at: usize) -> usize
-    requires { Whole desk × (2048 ≤ length args.now) × (at + 192 ≤ length out.old) }
-    ensures { result ≤ at + 191 }
-{
-    let mut pad = byte_buffer();
-    log_in(args, desk, &mut pad, out, at)
-}
-
-fn log_in(args: &[u64], desk: Desk, pad: &mut [u8], out: &mut [u8], at: usize) -> usize
-    requires { Whole desk × (2048 ≤ length args.now) × (4096 ≤ length pad.old) × (at + 192 ≤ length out.old) }
-    ensures { result ≤ at + 191 }
-{
-    let frame = frame_arg(args, 0);
-    let room = room_for(args);
-    let l = desk.log(frame, &mut pad[..room]);
-    if l.no != 0 {
-        return put_number(out, at, l.no);
+    match desk.show(fields.frame(0)) {
+        Ok(shown) => tell_shown(out, at, shown, desk.seats() as usize),
+        Err(refusal) => tell_refusal(out, at, refusal),
     }
-    let size = l.count as usize - 1;
-    tell_line(out, at, &pad[..size])
 }
 
-// A log line after its number. The newline that ends it is the answer's own, and not part of it.
+// A log line into these bytes. Answers how many it takes without the newline that ends it, which is the
+// answer's own.
+fn log_into(desk: Desk, frame: i32, pad: &mut [u8]) -> Result<usize, Refusal>
+    requires { Whole desk }
+    ensures { IfOk result (λ size. size ≤ 53) }
+{
+    let count = desk.log(frame, pad)?;
+    Ok(count as usize - 1)
+}
+
+// log FRAME ROOM: no more bytes are lent than there are.
+fn log(fields: &Fields, desk: Desk, out: &mut [u8], at: usize) -> usize
+    requires { Whole desk × (at + 192 ≤ length out.old) }
+    ensures { result ≤ at + 191 }
+{
+    let mut pad = [0u8; 4096];
+    let room = fields.number(1).min(4096) as usize;
+    match log_into(desk, fields.frame(0), &mut pad[..room]) {
+        Ok(size) => tell_line(out, at, &pad[..size]),
+        Err(refusal) => tell_refusal(out, at, refusal),
+    }
+}
+
+// A log line after its number.
 fn tell_line(out: &mut [u8], at: usize, line: &[u8]) -> usize
     requires { at + 11 + length line.now ≤ length out.old }
     ensures { result ≤ at + 11 + length line.now }
@@ -178,37 +131,22 @@ fn standing(desk: Desk, out: &mut [u8], at: usize) -> usize
     put_state_value(out, last, desk.console())
 }
 
-// Any call of the desk, by its number within the part, with as many fields as its line had.
-pub fn make(call: u32, count: u32, args: &[u64], desk: Desk, out: &mut [u8], at: usize) -> Told
-    requires { Whole desk × (2048 ≤ length args.now) × (count < 2048) × (at + 192 ≤ length out.old) }
-    ensures { Whole result.desk × (result.at ≤ at + 191) }
+// Any call of the desk, with as many fields as its line had. The last three only look.
+pub fn make(call: DeskCall, fields: &Fields, desk: Desk, out: &mut [u8], at: usize) -> Told<Desk>
+    requires { Whole desk × (at + 192 ≤ length out.old) }
+    ensures { Whole result.part × (result.at ≤ at + 191) }
 {
-    if call == OPEN {
-        return open(count, args, out, at);
+    let looked = match call {
+        DeskCall::Open => return open(fields, out, at),
+        DeskCall::Take => return take(fields, desk, out, at),
+        DeskCall::Settle => return settle(desk, out, at),
+        DeskCall::Advance => return advance(desk, out, at),
+        DeskCall::Show => show(fields, desk, out, at),
+        DeskCall::Log => log(fields, desk, out, at),
+        DeskCall::Now => standing(desk, out, at),
+    };
+    Told {
+        part: desk,
+        at: looked,
     }
-    if call == TAKE {
-        return take(args, desk, out, at);
-    }
-    if call == SETTLE {
-        return settle(desk, out, at);
-    }
-    if call == ADVANCE {
-        return advance(desk, out, at);
-    }
-    let end = look(call, args, desk, out, at);
-    Told { desk, at: end }
-}
-
-// The calls that only look: the desk stays as it is.
-fn look(call: u32, args: &[u64], desk: Desk, out: &mut [u8], at: usize) -> usize
-    requires { Whole desk × (2048 ≤ length args.now) × (at + 192 ≤ length out.old) }
-    ensures { result ≤ at + 191 }
-{
-    if call == SHOW {
-        return show(args, desk, out, at);
-    }
-    if call == LOG {
-        return log(args, desk, out, at);
-    }
-    standing(desk, out, at)
 }

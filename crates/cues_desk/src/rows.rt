@@ -26,10 +26,8 @@ fn put_words(out: &mut [u8], at: usize, words: &[u32; MAX_SEATS], n: usize) -> u
     ensures { result ≤ at + 9 * n }
 {
     let mut next = at;
-    let mut i: usize = 0;
-    while i < n {
-        next = put_word_value(out, next, words[i]);
-        i += 1;
+    for &word in &words[..n] {
+        next = put_word_value(out, next, word);
     }
     next
 }
@@ -46,10 +44,8 @@ fn put_served(
     ensures { result ≤ at + 11 * n }
 {
     let mut next = at;
-    let mut i: usize = 0;
-    while i < n {
-        next = put_served_value(out, next, words[i], statuses[i] == CONFIRMED);
-        i += 1;
+    for (&word, &status) in words[..n].iter().zip(&statuses[..n]) {
+        next = put_served_value(out, next, word, status == CONFIRMED);
     }
     next
 }
@@ -59,15 +55,9 @@ pub fn tell_served(out: &mut [u8], at: usize, a: AdvancedDesk, n: usize) -> usiz
     requires { (n ≤ max_seats) × (at + 77 ≤ length out.old) }
     ensures { result ≤ at + 77 }
 {
-    let end = put_number(out, at, a.no);
-    if a.no != 0 {
-        return end;
-    }
-    let report = a.report;
-    let served = a.served;
-    let statuses = a.statuses;
-    let next = put_report(out, end, report);
-    put_served(out, next, &served, &statuses, n)
+    let end = put_number(out, at, 0);
+    let next = put_report(out, end, a.report);
+    put_served(out, next, &a.served, &a.statuses, n)
 }
 
 // A frame that is shown: each seat's word, and the console after it.
@@ -75,12 +65,7 @@ pub fn tell_shown(out: &mut [u8], at: usize, shown: ShownDesk, n: usize) -> usiz
     requires { (n ≤ max_seats) × (at + 73 ≤ length out.old) }
     ensures { result ≤ at + 73 }
 {
-    let end = put_number(out, at, shown.no);
-    if shown.no != 0 {
-        return end;
-    }
-    let words = shown.words;
-    let console = shown.console;
-    let next = put_words(out, end, &words, n);
-    put_state_value(out, next, console)
+    let end = put_number(out, at, 0);
+    let next = put_words(out, end, &shown.words, n);
+    put_state_value(out, next, shown.console)
 }

@@ -1,236 +1,203 @@
-// The calls of the layer in force, by value: each makes its call and tells its answer.
-#![tactic(auto)]
+// The calls of the layer in force, by value: each makes its call and tells its answer. One that is refused leaves the layer as it was.
+#![tactic(auto, using(crate::proofs::Keeping::keeping))]
 
-mod fields;
+mod statuses;
 mod tell;
 
 ghost use Rattle.std.specs.Prelude.{◌+◌, ◌≤◌, ◌<◌, length};
 ghost use Rattle.sync_layer_value.specs.Value.{Whole};
 
 use console::Console;
-use cues_text::{frame_arg, number_arg, tell_fills, tell_frame, tell_number};
+use cues_text::{Fields, Told, tell_fills, tell_frame, tell_number, tell_refusal, tell_setup};
 use frame_info::PlayerInput;
+use sheet::calls::LayerCall;
 use sync_layer_value::SyncLayer;
 
-// The layer's calls, by their numbers within the part.
-const OPEN: u32 = 0;
-
-const LOCAL: u32 = 1;
-
-const REMOTE: u32 = 2;
-
-const SAVE: u32 = 3;
-
-const LOAD: u32 = 4;
-
-const ADVANCE: u32 = 5;
-
-const REQUEST: u32 = 6;
-
-const CONFIRMED: u32 = 7;
-
-const CONFIRM: u32 = 8;
-
-const CONSISTENT: u32 = 9;
-
-const SAVED: u32 = 10;
-
-const LATEST: u32 = 11;
-
-const DELAY: u32 = 12;
-
-const RESET: u32 = 13;
-
-// What a call leaves: the layer, and where its answer ends.
-#[derive(Clone, Copy)]
-pub struct Told {
-    pub layer: SyncLayer,
-    pub at: usize,
-}
-
 // layer LIMIT PREDICTOR DELAY..
-fn open(count: u32, args: &[u64], out: &mut [u8], at: usize) -> Told
-    requires { (2048 ≤ length args.now) × (count < 2048) × (at + 192 ≤ length out.old) }
-    ensures { Whole result.layer × (result.at ≤ at + 191) }
+fn open(fields: &Fields, out: &mut [u8], at: usize) -> Told<SyncLayer>
+    requires { at + 192 ≤ length out.old }
+    ensures { Whole result.part × (result.at ≤ at + 191) }
 {
-    let mut delays = fields::number_buffer();
-    let n = fields::fields_after(count, 2);
-    fields::take_delays(args, 2, n, &mut delays);
-    let o = SyncLayer::new(number_arg(args, 0), number_arg(args, 1), &delays[..n]);
-    let end = tell_number(out, at, o.no);
-    let next = o.layer;
+    let mut delays = [0u32; 2048];
+    let n = fields.numbers(2, &mut delays);
+    let opened = SyncLayer::new(fields.number(0), fields.number(1), &delays[..n]);
     Told {
-        layer: next,
-        at: end,
+        part: opened.layer,
+        at: tell_setup(out, at, opened.refused),
     }
 }
 
-fn input_of(args: &[u64]) -> PlayerInput
-    requires { 2048 ≤ length args.now }
-{
-    PlayerInput::new(frame_arg(args, 1), number_arg(args, 2))
+fn input_of(fields: &Fields) -> PlayerInput {
+    PlayerInput::new(fields.frame(1), fields.number(2))
 }
 
 // l.local SEAT FRAME WORD
-fn local(args: &[u64], layer: SyncLayer, out: &mut [u8], at: usize) -> Told
-    requires { Whole layer × (2048 ≤ length args.now) × (at + 192 ≤ length out.old) }
-    ensures { Whole result.layer × (result.at ≤ at + 191) }
+fn local(fields: &Fields, layer: SyncLayer, out: &mut [u8], at: usize) -> Told<SyncLayer>
+    requires { Whole layer × (at + 192 ≤ length out.old) }
+    ensures { Whole result.part × (result.at ≤ at + 191) }
 {
-    let a = layer.add_local_input(number_arg(args, 0), input_of(args));
-    let end = tell_frame(out, at, a.no, a.place);
-    let next = a.layer;
-    Told {
-        layer: next,
-        at: end,
+    match layer.add_local_input(fields.number(0), input_of(fields)) {
+        Ok(placed) => Told {
+            part: placed.layer,
+            at: tell_frame(out, at, placed.place),
+        },
+        Err(refusal) => Told {
+            part: layer,
+            at: tell_refusal(out, at, refusal),
+        },
     }
 }
 
 // l.remote SEAT FRAME WORD
-fn remote(args: &[u64], layer: SyncLayer, out: &mut [u8], at: usize) -> Told
-    requires { Whole layer × (2048 ≤ length args.now) × (at + 192 ≤ length out.old) }
-    ensures { Whole result.layer × (result.at ≤ at + 191) }
+fn remote(fields: &Fields, layer: SyncLayer, out: &mut [u8], at: usize) -> Told<SyncLayer>
+    requires { Whole layer × (at + 192 ≤ length out.old) }
+    ensures { Whole result.part × (result.at ≤ at + 191) }
 {
-    let a = layer.add_remote_input(number_arg(args, 0), input_of(args));
-    let end = tell_frame(out, at, a.no, a.place);
-    let next = a.layer;
-    Told {
-        layer: next,
-        at: end,
+    match layer.add_remote_input(fields.number(0), input_of(fields)) {
+        Ok(placed) => Told {
+            part: placed.layer,
+            at: tell_frame(out, at, placed.place),
+        },
+        Err(refusal) => Told {
+            part: layer,
+            at: tell_refusal(out, at, refusal),
+        },
     }
 }
 
 // l.delay SEAT DELAY
-fn delay(args: &[u64], layer: SyncLayer, out: &mut [u8], at: usize) -> Told
-    requires { Whole layer × (2048 ≤ length args.now) × (at + 192 ≤ length out.old) }
-    ensures { Whole result.layer × (result.at ≤ at + 191) }
+fn delay(fields: &Fields, layer: SyncLayer, out: &mut [u8], at: usize) -> Told<SyncLayer>
+    requires { Whole layer × (at + 192 ≤ length out.old) }
+    ensures { Whole result.part × (result.at ≤ at + 191) }
 {
-    let a = layer.set_frame_delay(number_arg(args, 0), number_arg(args, 1));
-    let end = tell_fills(out, at, a.no, a.first, a.count, a.word);
-    let next = a.layer;
-    Told {
-        layer: next,
-        at: end,
+    match layer.set_frame_delay(fields.number(0), fields.number(1)) {
+        Ok(fills) => Told {
+            part: fills.layer,
+            at: tell_fills(out, at, fills.first, fills.count, fills.word),
+        },
+        Err(refusal) => Told {
+            part: layer,
+            at: tell_refusal(out, at, refusal),
+        },
     }
 }
 
 // l.reset
-fn reset(layer: SyncLayer, out: &mut [u8], at: usize) -> Told
+fn reset(layer: SyncLayer, out: &mut [u8], at: usize) -> Told<SyncLayer>
     requires { Whole layer × (at + 192 ≤ length out.old) }
-    ensures { Whole result.layer × (result.at ≤ at + 191) }
+    ensures { Whole result.part × (result.at ≤ at + 191) }
 {
-    let next = layer.reset_prediction();
-    let end = tell_number(out, at, 0);
     Told {
-        layer: next,
-        at: end,
+        part: layer.reset_prediction(),
+        at: tell_number(out, at, 0),
     }
 }
 
 // l.confirm FRAME FLAG
-fn confirm(args: &[u64], layer: SyncLayer, out: &mut [u8], at: usize) -> Told
-    requires { Whole layer × (2048 ≤ length args.now) × (at + 192 ≤ length out.old) }
-    ensures { Whole result.layer × (result.at ≤ at + 191) }
+fn confirm(fields: &Fields, layer: SyncLayer, out: &mut [u8], at: usize) -> Told<SyncLayer>
+    requires { Whole layer × (at + 192 ≤ length out.old) }
+    ensures { Whole result.part × (result.at ≤ at + 191) }
 {
-    let sparse = number_arg(args, 1) != 0;
-    let a = layer.set_last_confirmed_frame(frame_arg(args, 0), sparse);
-    let end = tell_number(out, at, a.no);
-    let next = a.layer;
-    Told {
-        layer: next,
-        at: end,
+    match layer.set_last_confirmed_frame(fields.frame(0), fields.number(1) != 0) {
+        Ok(part) => Told {
+            part: part,
+            at: tell_number(out, at, 0),
+        },
+        Err(refusal) => Told {
+            part: layer,
+            at: tell_refusal(out, at, refusal),
+        },
     }
 }
 
 // l.save HEAD KIND SEAL
-fn save(args: &[u64], layer: SyncLayer, out: &mut [u8], at: usize) -> Told
-    requires { Whole layer × (2048 ≤ length args.now) × (at + 192 ≤ length out.old) }
-    ensures { Whole result.layer × (result.at ≤ at + 191) }
+fn save(fields: &Fields, layer: SyncLayer, out: &mut [u8], at: usize) -> Told<SyncLayer>
+    requires { Whole layer × (at + 192 ≤ length out.old) }
+    ensures { Whole result.part × (result.at ≤ at + 191) }
 {
     let state = Console {
-        head: number_arg(args, 0),
-        kind: number_arg(args, 1),
-        seal: number_arg(args, 2),
+        head: fields.number(0),
+        kind: fields.number(1),
+        seal: fields.number(2),
     };
-    let next = layer.save_current_state(state);
-    let end = tell_number(out, at, 0);
     Told {
-        layer: next,
-        at: end,
+        part: layer.save_current_state(state),
+        at: tell_number(out, at, 0),
     }
 }
 
 // l.load FRAME
-fn load(args: &[u64], layer: SyncLayer, out: &mut [u8], at: usize) -> Told
-    requires { Whole layer × (2048 ≤ length args.now) × (at + 192 ≤ length out.old) }
-    ensures { Whole result.layer × (result.at ≤ at + 191) }
+fn load(fields: &Fields, layer: SyncLayer, out: &mut [u8], at: usize) -> Told<SyncLayer>
+    requires { Whole layer × (at + 192 ≤ length out.old) }
+    ensures { Whole result.part × (result.at ≤ at + 191) }
 {
-    let a = layer.load_frame(frame_arg(args, 0));
-    let state = a.state;
-    let end = tell::tell_state(out, at, a.no, state);
-    let next = a.layer;
-    Told {
-        layer: next,
-        at: end,
+    match layer.load_frame(fields.frame(0)) {
+        Ok(loaded) => Told {
+            part: loaded.layer,
+            at: tell::tell_state(out, at, loaded.state),
+        },
+        Err(refusal) => Told {
+            part: layer,
+            at: tell_refusal(out, at, refusal),
+        },
     }
 }
 
 // l.advance
-fn advance(layer: SyncLayer, out: &mut [u8], at: usize) -> Told
+fn advance(layer: SyncLayer, out: &mut [u8], at: usize) -> Told<SyncLayer>
     requires { Whole layer × (at + 192 ≤ length out.old) }
-    ensures { Whole result.layer × (result.at ≤ at + 191) }
+    ensures { Whole result.part × (result.at ≤ at + 191) }
 {
-    let a = layer.advance_frame();
-    let next = a.layer;
-    let end = tell_frame(out, at, a.no, next.current_frame());
-    Told {
-        layer: next,
-        at: end,
+    match layer.advance_frame() {
+        Ok(part) => Told {
+            part: part,
+            at: tell_frame(out, at, part.current_frame()),
+        },
+        Err(refusal) => Told {
+            part: layer,
+            at: tell_refusal(out, at, refusal),
+        },
     }
 }
 
 // l.request STATUS..
-fn request(count: u32, args: &[u64], layer: SyncLayer, out: &mut [u8], at: usize) -> Told
-    requires { Whole layer × (2048 ≤ length args.now) × (count < 2048) × (at + 192 ≤ length out.old) }
-    ensures { Whole result.layer × (result.at ≤ at + 191) }
-{
-    let mut gone = fields::flag_buffer();
-    let mut lasts = fields::frame_buffer();
-    let n = fields::fields_after(count, 0);
-    fields::take_statuses(args, 0, n, &mut gone, &mut lasts);
-    request_with(&gone[..n], &lasts[..n], layer, out, at)
-}
-
-fn request_with(gone: &[bool], lasts: &[i32], layer: SyncLayer, out: &mut [u8], at: usize) -> Told
+fn request(fields: &Fields, layer: SyncLayer, out: &mut [u8], at: usize) -> Told<SyncLayer>
     requires { Whole layer × (at + 192 ≤ length out.old) }
-    ensures { Whole result.layer × (result.at ≤ at + 191) }
+    ensures { Whole result.part × (result.at ≤ at + 191) }
 {
-    let a = layer.synchronized_inputs(gone, lasts);
-    let inputs = a.inputs;
-    let statuses = a.statuses;
-    let state = layer.state;
-    let n = state.num_players as usize;
-    let end = tell::tell_served(out, at, a.no, &inputs, &statuses, n);
-    let next = a.layer;
-    Told {
-        layer: next,
-        at: end,
+    let mut gone = [false; 2048];
+    let mut lasts = [0i32; 2048];
+    let n = fields.count as usize;
+    statuses::take(fields, 0, n, &mut gone, &mut lasts);
+    let seats = layer.state.num_players as usize;
+    match layer.synchronized_inputs(&gone[..n], &lasts[..n]) {
+        Ok(served) => Told {
+            part: served.layer,
+            at: tell::tell_served(out, at, &served.inputs, &served.statuses, seats),
+        },
+        Err(refusal) => Told {
+            part: layer,
+            at: tell_refusal(out, at, refusal),
+        },
     }
 }
 
 // l.confirmed FRAME STATUS..; the layer stays as it is, here and in all that follow.
-fn confirmed(count: u32, args: &[u64], layer: SyncLayer, out: &mut [u8], at: usize) -> usize
-    requires { Whole layer × (2048 ≤ length args.now) × (count < 2048) × (at + 192 ≤ length out.old) }
+fn confirmed(fields: &Fields, layer: SyncLayer, out: &mut [u8], at: usize) -> usize
+    requires { Whole layer × (at + 192 ≤ length out.old) }
     ensures { result ≤ at + 191 }
 {
-    let mut gone = fields::flag_buffer();
-    let mut lasts = fields::frame_buffer();
-    let n = fields::fields_after(count, 1);
-    fields::take_statuses(args, 1, n, &mut gone, &mut lasts);
-    let a = layer.confirmed_inputs(&gone[..n], &lasts[..n], frame_arg(args, 0));
-    let frames = a.frames;
-    let inputs = a.inputs;
-    let state = layer.state;
-    tell::tell_found(out, at, a.no, &frames, &inputs, state.num_players as usize)
+    let mut gone = [false; 2048];
+    let mut lasts = [0i32; 2048];
+    let n = fields.count.saturating_sub(1) as usize;
+    statuses::take(fields, 1, n, &mut gone, &mut lasts);
+    match layer.confirmed_inputs(&gone[..n], &lasts[..n], fields.frame(0)) {
+        Ok(found) => {
+            let n = layer.state.num_players as usize;
+            tell::tell_found(out, at, &found.frames, &found.inputs, n)
+        }
+        Err(refusal) => tell_refusal(out, at, refusal),
+    }
 }
 
 // l.consistent
@@ -238,26 +205,29 @@ fn consistent(layer: SyncLayer, out: &mut [u8], at: usize) -> usize
     requires { Whole layer × (at + 192 ≤ length out.old) }
     ensures { result ≤ at + 191 }
 {
-    tell_frame(out, at, 0, layer.check_simulation_consistency())
+    tell_frame(out, at, layer.check_simulation_consistency())
 }
 
 // l.saved FRAME
-fn saved(args: &[u64], layer: SyncLayer, out: &mut [u8], at: usize) -> usize
-    requires { Whole layer × (2048 ≤ length args.now) × (at + 192 ≤ length out.old) }
+fn saved(fields: &Fields, layer: SyncLayer, out: &mut [u8], at: usize) -> usize
+    requires { Whole layer × (at + 192 ≤ length out.old) }
     ensures { result ≤ at + 191 }
 {
-    let a = layer.saved_state_by_frame(frame_arg(args, 0));
-    let state = a.state;
-    tell::tell_state(out, at, a.no, state)
+    match layer.saved_state_by_frame(fields.frame(0)) {
+        Ok(state) => tell::tell_state(out, at, state),
+        Err(refusal) => tell_refusal(out, at, refusal),
+    }
 }
 
 // l.latest START END
-fn latest(args: &[u64], layer: SyncLayer, out: &mut [u8], at: usize) -> usize
-    requires { Whole layer × (2048 ≤ length args.now) × (at + 192 ≤ length out.old) }
+fn latest(fields: &Fields, layer: SyncLayer, out: &mut [u8], at: usize) -> usize
+    requires { Whole layer × (at + 192 ≤ length out.old) }
     ensures { result ≤ at + 191 }
 {
-    let a = layer.latest_saved_state_in_range(frame_arg(args, 0), frame_arg(args, 1));
-    tell_frame(out, at, a.no, a.frame)
+    match layer.latest_saved_state_in_range(fields.frame(0), fields.frame(1)) {
+        Ok(frame) => tell_frame(out, at, frame),
+        Err(refusal) => tell_refusal(out, at, refusal),
+    }
 }
 
 // l.now
@@ -270,76 +240,36 @@ fn now(layer: SyncLayer, out: &mut [u8], at: usize) -> usize
     tell::tell_frames(out, at, layer.current_frame(), saved, confirmed)
 }
 
-// The calls that only look.
-fn look(call: u32, count: u32, args: &[u64], layer: SyncLayer, out: &mut [u8], at: usize) -> usize
-    requires { Whole layer × (2048 ≤ length args.now) × (count < 2048) × (at + 192 ≤ length out.old) }
-    ensures { result ≤ at + 191 }
-{
-    if call == CONFIRMED {
-        return confirmed(count, args, layer, out, at);
-    }
-    if call == CONSISTENT {
-        return consistent(layer, out, at);
-    }
-    if call == SAVED {
-        return saved(args, layer, out, at);
-    }
-    if call == LATEST {
-        return latest(args, layer, out, at);
-    }
-    now(layer, out, at)
-}
-
-// The calls that go from frame to frame, or look.
-fn step(call: u32, count: u32, args: &[u64], layer: SyncLayer, out: &mut [u8], at: usize) -> Told
-    requires { Whole layer × (2048 ≤ length args.now) × (count < 2048) × (at + 192 ≤ length out.old) }
-    ensures { Whole result.layer × (result.at ≤ at + 191) }
-{
-    if call == SAVE {
-        return save(args, layer, out, at);
-    }
-    if call == LOAD {
-        return load(args, layer, out, at);
-    }
-    if call == ADVANCE {
-        return advance(layer, out, at);
-    }
-    let end = look(call, count, args, layer, out, at);
-    Told { layer, at: end }
-}
-
-// Any call of the layer, by its number within the part, with as many fields as its line had.
+// Any call of the layer, with as many fields as its line had. The last ones only look.
 pub fn make(
-    call: u32,
-    count: u32,
-    args: &[u64],
+    call: LayerCall,
+    fields: &Fields,
     layer: SyncLayer,
     out: &mut [u8],
     at: usize,
-) -> Told
-    requires { Whole layer × (2048 ≤ length args.now) × (count < 2048) × (at + 192 ≤ length out.old) }
-    ensures { Whole result.layer × (result.at ≤ at + 191) }
+) -> Told<SyncLayer>
+    requires { Whole layer × (at + 192 ≤ length out.old) }
+    ensures { Whole result.part × (result.at ≤ at + 191) }
 {
-    if call == OPEN {
-        return open(count, args, out, at);
+    let looked = match call {
+        LayerCall::Open => return open(fields, out, at),
+        LayerCall::Local => return local(fields, layer, out, at),
+        LayerCall::Remote => return remote(fields, layer, out, at),
+        LayerCall::Save => return save(fields, layer, out, at),
+        LayerCall::Load => return load(fields, layer, out, at),
+        LayerCall::Advance => return advance(layer, out, at),
+        LayerCall::Request => return request(fields, layer, out, at),
+        LayerCall::Confirm => return confirm(fields, layer, out, at),
+        LayerCall::Delay => return delay(fields, layer, out, at),
+        LayerCall::Reset => return reset(layer, out, at),
+        LayerCall::Confirmed => confirmed(fields, layer, out, at),
+        LayerCall::Consistent => consistent(layer, out, at),
+        LayerCall::Saved => saved(fields, layer, out, at),
+        LayerCall::Latest => latest(fields, layer, out, at),
+        LayerCall::Now => now(layer, out, at),
+    };
+    Told {
+        part: layer,
+        at: looked,
     }
-    if call == LOCAL {
-        return local(args, layer, out, at);
-    }
-    if call == REMOTE {
-        return remote(args, layer, out, at);
-    }
-    if call == DELAY {
-        return delay(args, layer, out, at);
-    }
-    if call == RESET {
-        return reset(layer, out, at);
-    }
-    if call == REQUEST {
-        return request(count, args, layer, out, at);
-    }
-    if call == CONFIRM {
-        return confirm(args, layer, out, at);
-    }
-    step(call, count, args, layer, out, at)
 }

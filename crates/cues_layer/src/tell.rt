@@ -7,14 +7,11 @@ use cues_text::{put_frame_value, put_letter_value, put_number, put_state_value, 
 use frame_info::input_status::{CONFIRMED, InputStatus, PREDICTED};
 use sync_layer::MAX_SEATS;
 
-pub fn tell_state(out: &mut [u8], at: usize, number: u32, state: Console) -> usize
+pub fn tell_state(out: &mut [u8], at: usize, state: Console) -> usize
     requires { at + 192 ≤ length out.old }
     ensures { result ≤ at + 191 }
 {
-    let end = put_number(out, at, number);
-    if number != 0 {
-        return end;
-    }
+    let end = put_number(out, at, 0);
     put_state_value(out, end, state)
 }
 
@@ -29,12 +26,10 @@ pub fn tell_frames(out: &mut [u8], at: usize, current: i32, saved: i32, confirme
 }
 
 fn letter_of(status: InputStatus) -> u8 {
-    if status == CONFIRMED {
-        b'c'
-    } else if status == PREDICTED {
-        b'p'
-    } else {
-        b'g'
+    match status {
+        CONFIRMED => b'c',
+        PREDICTED => b'p',
+        _ => b'g',
     }
 }
 
@@ -47,41 +42,21 @@ fn put_served(out: &mut [u8], at: usize, word: u32, status: InputStatus) -> usiz
 }
 
 // Every seat's word and status.
-fn put_all_served(
-    out: &mut [u8],
-    at: usize,
-    words: &[u32; MAX_SEATS],
-    statuses: &[u32; MAX_SEATS],
-    n: usize,
-) -> usize
-    requires { (n ≤ max_seats) × (at + 11 * n ≤ length out.old) }
-    ensures { result ≤ at + 11 * n }
-{
-    let mut end = at;
-    let mut i: usize = 0;
-    while i < n {
-        end = put_served(out, end, words[i], statuses[i]);
-        i += 1;
-    }
-    end
-}
-
 pub fn tell_served(
     out: &mut [u8],
     at: usize,
-    number: u32,
     words: &[u32; MAX_SEATS],
-    statuses: &[u32; MAX_SEATS],
+    statuses: &[InputStatus; MAX_SEATS],
     n: usize,
 ) -> usize
     requires { (n ≤ max_seats) × (at + 192 ≤ length out.old) }
     ensures { result ≤ at + 191 }
 {
-    let end = put_number(out, at, number);
-    if number != 0 {
-        return end;
+    let mut end = put_number(out, at, 0);
+    for (&word, &status) in words[..n].iter().zip(&statuses[..n]) {
+        end = put_served(out, end, word, status);
     }
-    put_all_served(out, end, words, statuses, n)
+    end
 }
 
 fn put_found(out: &mut [u8], at: usize, frame: i32, word: u32) -> usize
@@ -93,29 +68,9 @@ fn put_found(out: &mut [u8], at: usize, frame: i32, word: u32) -> usize
 }
 
 // Every seat's frame and word.
-fn put_all_found(
-    out: &mut [u8],
-    at: usize,
-    frames: &[i32; MAX_SEATS],
-    words: &[u32; MAX_SEATS],
-    n: usize,
-) -> usize
-    requires { (n ≤ max_seats) × (at + 21 * n ≤ length out.old) }
-    ensures { result ≤ at + 21 * n }
-{
-    let mut end = at;
-    let mut i: usize = 0;
-    while i < n {
-        end = put_found(out, end, frames[i], words[i]);
-        i += 1;
-    }
-    end
-}
-
 pub fn tell_found(
     out: &mut [u8],
     at: usize,
-    number: u32,
     frames: &[i32; MAX_SEATS],
     words: &[u32; MAX_SEATS],
     n: usize,
@@ -123,9 +78,9 @@ pub fn tell_found(
     requires { (n ≤ max_seats) × (at + 192 ≤ length out.old) }
     ensures { result ≤ at + 191 }
 {
-    let end = put_number(out, at, number);
-    if number != 0 {
-        return end;
+    let mut end = put_number(out, at, 0);
+    for (&frame, &word) in frames[..n].iter().zip(&words[..n]) {
+        end = put_found(out, end, frame, word);
     }
-    put_all_found(out, end, frames, words, n)
+    end
 }

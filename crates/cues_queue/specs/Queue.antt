@@ -5,9 +5,7 @@ use Rattle.frame_info.specs.Word.{player_input}
 use Rattle.frame_info.specs.declared.PlayerInput.{PlayerInput}
 use Rattle.input_queue.specs.Calls as calls
 use Rattle.input_queue_value.specs.declared.InputQueue.{InputQueue}
-use Rattle.input_queue_value.specs.declared.AddedQueue.{AddedQueue}
-use Rattle.input_queue_value.specs.declared.ServedQueue.{ServedQueue}
-use Rattle.input_queue_value.specs.declared.AnnouncedQueue.{AnnouncedQueue}
+use Rattle.input_queue_value.specs.Answer.{AddedQueue, ServedQueue, AnnouncedQueue}
 use Rattle.input_queue_value.specs.Value as held
 use Rattle.cues_text.specs.Args.{number_arg, frame_arg}
 use Rattle.cues_text.specs.Text.{answer_text, frame_value, word_value, served_value, fills_value}

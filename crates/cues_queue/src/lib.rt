@@ -1,173 +1,159 @@
-// The calls of the queue in force, by value: each makes its call and tells its answer.
+// The calls of the queue in force, by value: each makes its call and tells its answer. One that is refused leaves the queue as it was.
 #![tactic(auto)]
 
 ghost use Rattle.std.specs.Prelude.{◌≡◌, ◌+◌, ◌≤◌, length};
-ghost use Rattle.std.proofs.lemmas.List.Edits.{sets};
 ghost use Rattle.input_queue_value.specs.Value.{Whole};
+ghost use Rattle.sheet.specs.Said.{number_of_queue_call};
+ghost use Rattle.cues_text.specs.Text.{Puts};
 ghost use Rattle.cues_queue.specs.Queue as tells;
 
 use cues_text::{
-    frame_arg, number_arg, tell_fills, tell_frame, tell_number, tell_served, tell_word,
+    Fields, Told, tell_fills, tell_frame, tell_number, tell_refusal, tell_served, tell_setup,
+    tell_word,
 };
 use frame_info::PlayerInput;
 use input_queue_value::InputQueue;
+use sheet::calls::QueueCall;
 
-// The queue's calls, by their numbers within the part.
-const OPEN: u32 = 0;
-
-const ADD: u32 = 1;
-
-const REQUEST: u32 = 2;
-
-const CONFIRMED: u32 = 3;
-
-const DISCARD: u32 = 4;
-
-const RESET: u32 = 5;
-
-const DELAY: u32 = 6;
-
-// What a call leaves: the queue, and where its answer ends.
-#[derive(Clone, Copy)]
-pub struct Told {
-    pub queue: InputQueue,
-    pub at: usize,
-}
-
-fn open(args: &[u64], out: &mut [u8], at: usize) -> Told
-    requires { (2048 ≤ length args.now) × (at + 64 ≤ length out.old) }
-    ensures { (result.queue ≡ tells.opened args.now) × (result.at ≡ at + length (tells.opened_text args.now))
-        × (out.new ≡ sets out.old at (tells.opened_text args.now)) × (result.at ≤ at + 63) }
-{
-    let o = InputQueue::new(number_arg(args, 0), number_arg(args, 1));
-    let end = tell_number(out, at, o.no);
-    let next = o.queue;
-    Told {
-        queue: next,
-        at: end,
-    }
-}
-
-fn add(args: &[u64], queue: InputQueue, out: &mut [u8], at: usize) -> Told
-    requires { (2048 ≤ length args.now) × (at + 64 ≤ length out.old) × Whole queue }
-    ensures { (result.queue ≡ tells.added args.now queue)
-        × (result.at ≡ at + length (tells.added_text args.now queue))
-        × (out.new ≡ sets out.old at (tells.added_text args.now queue)) × (result.at ≤ at + 63) }
-{
-    let a = queue.add_input(PlayerInput::new(frame_arg(args, 0), number_arg(args, 1)));
-    let end = tell_frame(out, at, a.no, a.place);
-    let next = a.queue;
-    Told {
-        queue: next,
-        at: end,
-    }
-}
-
-fn request(args: &[u64], queue: InputQueue, out: &mut [u8], at: usize) -> Told
-    requires { (2048 ≤ length args.now) × (at + 64 ≤ length out.old) × Whole queue }
-    ensures { (result.queue ≡ tells.requested args.now queue)
-        × (result.at ≡ at + length (tells.requested_text args.now queue))
-        × (out.new ≡ sets out.old at (tells.requested_text args.now queue)) × (result.at ≤ at + 63) }
-{
-    let a = queue.input(frame_arg(args, 0));
-    let end = tell_served(out, at, a.no, a.word, a.confirmed);
-    let next = a.queue;
-    Told {
-        queue: next,
-        at: end,
-    }
-}
-
-fn confirmed(args: &[u64], queue: InputQueue, out: &mut [u8], at: usize) -> Told
-    requires { (2048 ≤ length args.now) × (at + 64 ≤ length out.old) × Whole queue }
-    ensures { (result.queue ≡ queue) × (result.at ≡ at + length (tells.confirmed_text args.now queue))
-        × (out.new ≡ sets out.old at (tells.confirmed_text args.now queue)) × (result.at ≤ at + 63) }
-{
-    let a = queue.confirmed_input(frame_arg(args, 0));
-    let input = a.input;
-    let end = tell_word(out, at, a.no, input.input);
-    Told { queue, at: end }
-}
-
-fn discard(args: &[u64], queue: InputQueue, out: &mut [u8], at: usize) -> Told
-    requires { (2048 ≤ length args.now) × (at + 64 ≤ length out.old) }
-    ensures { (result.queue ≡ tells.discarded args.now queue)
-        × (result.at ≡ at + length (tells.discarded_text args.now queue))
-        × (out.new ≡ sets out.old at (tells.discarded_text args.now queue)) × (result.at ≤ at + 63) }
-{
-    let a = queue.discard_confirmed_frames(frame_arg(args, 0));
-    let end = tell_number(out, at, a.no);
-    let next = a.queue;
-    Told {
-        queue: next,
-        at: end,
-    }
-}
-
-fn reset(queue: InputQueue, out: &mut [u8], at: usize) -> Told
+fn open(fields: &Fields, out: &mut [u8], at: usize) -> Told<InputQueue>
     requires { at + 64 ≤ length out.old }
-    ensures { (result.queue ≡ tells.cleared queue) × (result.at ≡ at + length (tells.cleared_text))
-        × (out.new ≡ sets out.old at (tells.cleared_text)) × (result.at ≤ at + 63) }
+    ensures { (result.part ≡ tells.opened fields.now.values.now)
+        × Puts (tells.opened_text fields.now.values.now) 63 at out.old out.new result.at }
 {
-    let next = queue.reset_prediction();
-    let end = tell_number(out, at, 0);
+    let opened = InputQueue::new(fields.number(0), fields.number(1));
     Told {
-        queue: next,
-        at: end,
+        part: opened.queue,
+        at: tell_setup(out, at, opened.refused),
     }
 }
 
-fn delay(args: &[u64], queue: InputQueue, out: &mut [u8], at: usize) -> Told
-    requires { (2048 ≤ length args.now) × (at + 64 ≤ length out.old) × Whole queue }
-    ensures { (result.queue ≡ tells.delayed args.now queue)
-        × (result.at ≡ at + length (tells.delayed_text args.now queue))
-        × (out.new ≡ sets out.old at (tells.delayed_text args.now queue)) × (result.at ≤ at + 63) }
+#[tactic(auto, using(cues_text::proofs::Texts::told_refused))]
+fn add(fields: &Fields, queue: InputQueue, out: &mut [u8], at: usize) -> Told<InputQueue>
+    requires { (at + 64 ≤ length out.old) × Whole queue }
+    ensures { (result.part ≡ tells.added fields.now.values.now queue)
+        × Puts (tells.added_text fields.now.values.now queue) 63 at out.old out.new result.at }
 {
-    let a = queue.set_frame_delay(number_arg(args, 0));
-    let end = tell_fills(out, at, a.no, a.first, a.count, a.word);
-    let next = a.queue;
-    Told {
-        queue: next,
-        at: end,
+    match queue.add_input(PlayerInput::new(fields.frame(0), fields.number(1))) {
+        Ok(added) => Told {
+            part: added.queue,
+            at: tell_frame(out, at, added.place),
+        },
+        Err(refusal) => Told {
+            part: queue,
+            at: tell_refusal(out, at, refusal),
+        },
     }
 }
 
-fn wrong(queue: InputQueue, out: &mut [u8], at: usize) -> Told
+#[tactic(auto, using(cues_text::proofs::Texts::told_refused))]
+fn request(fields: &Fields, queue: InputQueue, out: &mut [u8], at: usize) -> Told<InputQueue>
+    requires { (at + 64 ≤ length out.old) × Whole queue }
+    ensures { (result.part ≡ tells.requested fields.now.values.now queue)
+        × Puts (tells.requested_text fields.now.values.now queue) 63 at out.old out.new result.at }
+{
+    match queue.input(fields.frame(0)) {
+        Ok(served) => Told {
+            part: served.queue,
+            at: tell_served(out, at, served.word, served.confirmed),
+        },
+        Err(refusal) => Told {
+            part: queue,
+            at: tell_refusal(out, at, refusal),
+        },
+    }
+}
+
+#[tactic(auto, using(cues_text::proofs::Texts::told_refused))]
+fn confirmed(fields: &Fields, queue: InputQueue, out: &mut [u8], at: usize) -> usize
+    requires { (at + 64 ≤ length out.old) × Whole queue }
+    ensures { Puts (tells.confirmed_text fields.now.values.now queue) 63 at out.old out.new result }
+{
+    match queue.confirmed_input(fields.frame(0)) {
+        Ok(input) => tell_word(out, at, input.input),
+        Err(refusal) => tell_refusal(out, at, refusal),
+    }
+}
+
+fn discard(fields: &Fields, queue: InputQueue, out: &mut [u8], at: usize) -> Told<InputQueue>
     requires { at + 64 ≤ length out.old }
-    ensures { (result.queue ≡ queue) × (result.at ≡ at + length (tells.wrong_text queue))
-        × (out.new ≡ sets out.old at (tells.wrong_text queue)) × (result.at ≤ at + 63) }
+    ensures { (result.part ≡ tells.discarded fields.now.values.now queue)
+        × Puts (tells.discarded_text fields.now.values.now queue) 63 at out.old out.new result.at }
 {
-    let end = tell_frame(out, at, 0, queue.first_incorrect_frame());
-    Told { queue, at: end }
+    match queue.discard_confirmed_frames(fields.frame(0)) {
+        Ok(part) => Told {
+            part,
+            at: tell_number(out, at, 0),
+        },
+        Err(refusal) => Told {
+            part: queue,
+            at: tell_refusal(out, at, refusal),
+        },
+    }
 }
 
-// Any call of the queue, by its number within the part.
-pub fn make(call: u32, args: &[u64], queue: InputQueue, out: &mut [u8], at: usize) -> Told
-    requires { (2048 ≤ length args.now) × (at + 64 ≤ length out.old) × Whole queue }
-    ensures { (result.queue ≡ tells.queue_after call args.now queue)
-        × (result.at ≡ at + length (tells.text_after call args.now queue))
-        × (out.new ≡ sets out.old at (tells.text_after call args.now queue)) × (result.at ≤ at + 63) }
+fn reset(queue: InputQueue, out: &mut [u8], at: usize) -> Told<InputQueue>
+    requires { at + 64 ≤ length out.old }
+    ensures { (result.part ≡ tells.cleared queue)
+        × Puts (tells.cleared_text) 63 at out.old out.new result.at }
 {
-    if call == OPEN {
-        return open(args, out, at);
+    Told {
+        part: queue.reset_prediction(),
+        at: tell_number(out, at, 0),
     }
-    if call == ADD {
-        return add(args, queue, out, at);
+}
+
+#[tactic(auto, using(cues_text::proofs::Texts::told_refused))]
+fn delay(fields: &Fields, queue: InputQueue, out: &mut [u8], at: usize) -> Told<InputQueue>
+    requires { (at + 64 ≤ length out.old) × Whole queue }
+    ensures { (result.part ≡ tells.delayed fields.now.values.now queue)
+        × Puts (tells.delayed_text fields.now.values.now queue) 63 at out.old out.new result.at }
+{
+    match queue.set_frame_delay(fields.number(0)) {
+        Ok(fills) => Told {
+            part: fills.queue,
+            at: tell_fills(out, at, fills.first, fills.count, fills.word),
+        },
+        Err(refusal) => Told {
+            part: queue,
+            at: tell_refusal(out, at, refusal),
+        },
     }
-    if call == REQUEST {
-        return request(args, queue, out, at);
+}
+
+fn wrong(queue: InputQueue, out: &mut [u8], at: usize) -> usize
+    requires { at + 64 ≤ length out.old }
+    ensures { Puts (tells.wrong_text queue) 63 at out.old out.new result }
+{
+    tell_frame(out, at, queue.first_incorrect_frame())
+}
+
+// Any call of the queue.
+#[tactic(auto, unfolding(crate::specs::Queue::queue_after, crate::specs::Queue::text_after))]
+pub fn make(
+    call: QueueCall,
+    fields: &Fields,
+    queue: InputQueue,
+    out: &mut [u8],
+    at: usize,
+) -> Told<InputQueue>
+    requires { (at + 64 ≤ length out.old) × Whole queue }
+    ensures { (result.part ≡ tells.queue_after (number_of_queue_call call) fields.now.values.now queue)
+        × Puts (tells.text_after (number_of_queue_call call) fields.now.values.now queue) 63 at out.old out.new result.at }
+{
+    match call {
+        QueueCall::Open => open(fields, out, at),
+        QueueCall::Add => add(fields, queue, out, at),
+        QueueCall::Request => request(fields, queue, out, at),
+        QueueCall::Confirmed => Told {
+            part: queue,
+            at: confirmed(fields, queue, out, at),
+        },
+        QueueCall::Discard => discard(fields, queue, out, at),
+        QueueCall::Reset => reset(queue, out, at),
+        QueueCall::Delay => delay(fields, queue, out, at),
+        QueueCall::Wrong => Told {
+            part: queue,
+            at: wrong(queue, out, at),
+        },
     }
-    if call == CONFIRMED {
-        return confirmed(args, queue, out, at);
-    }
-    if call == DISCARD {
-        return discard(args, queue, out, at);
-    }
-    if call == RESET {
-        return reset(queue, out, at);
-    }
-    if call == DELAY {
-        return delay(args, queue, out, at);
-    }
-    wrong(queue, out, at)
 }

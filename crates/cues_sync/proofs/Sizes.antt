@@ -1,12 +1,9 @@
--- Every number that is told by its bits is a number, and the fields are the frames that they stand for. Assumes nothing.
-use Prim.Native.Nat.{ℕ}
+-- Every number that is told by its bits is a number. Assumes nothing.
 use mathlib.Core.Path.{◌≡◌, ap, sym, subst, ◌∙◌}
 use mathlib.Core.Bool.{not}
 use lib.Dec.{T}
-use mathlib.Core.List.{List}
-use lib.IntN.{ℤ, pos}
+use lib.IntN.{pos}
 use lib.Ieee.{Float, nan, inf, fin, is_nan, neg, eq, lt, of_int}
-use borrow.Author.Tests.{eq-eqb, ne_eqb}
 use Rattle.frame_info.proofs.Picked.{picked}
 use Rattle.time_sync.specs.declared.TimeSync.{TimeSync}
 use Rattle.time_sync.specs.declared.Averages.{Averages}
@@ -14,12 +11,8 @@ use Rattle.time_sync.specs.declared.Reading.{Reading}
 use Rattle.time_sync.specs.declared.Reading.TheVariants.{Over, Under}
 use Rattle.time_sync.specs.Averages.{averages_of, half, in_binary32}
 use Rattle.time_sync.specs.Readings.{Shown, shown, reading_of, even, over_by, under_by}
-use Rattle.time_sync.specs.declared.Advanced.{Advanced}
-use Rattle.time_sync.specs.Windows.{fresh, advanced}
-use Rattle.cues_text.specs.Args.{frame_arg}
 use Rattle.time_sync.proofs.Bits.{under_no_nan}
 use Rattle.time_sync.proofs.Bounds.{average_under, half_under}
-use Rattle.cues_sync.specs.Sync.{advanced_by, after}
 
 -- ---- both averages
 
@@ -61,25 +54,3 @@ module _ (s : TimeSync) (r : Reading) (x : Float) (e : shown r ≡ reading_of s)
   under_plain d = subst (λ (z : Shown). T (not (is_nan z.size))) (sym e ∙ ap shown d) (size_plain s)
 
 pub ruleset plain = (local_plain, remote_plain, over_plain, under_plain)
-
--- ---- which windows a call leaves
-
-module _ (call : ℕ) (a : List ℕ) (t : TimeSync) where
-  pub after_opened : (r : TimeSync) → call ≡ 0 → r ≡ fresh → r ≡ after call a t
-  unfolding after
-  after_opened r c e = simp (eq-eqb _ _ c) e
-
-  pub after_advanced : (r : TimeSync) → (call ≡ 0 → ⊥) → call ≡ 1 → r ≡ advanced_by a t → r ≡ after call a t
-  unfolding after
-  after_advanced r n c e = simp (ne_eqb _ _ n, eq-eqb _ _ c) e
-
-  pub after_look : (call ≡ 0 → ⊥) → (call ≡ 1 → ⊥) → t ≡ after call a t
-  unfolding after
-  after_look n m = simp (ne_eqb _ _ n, ne_eqb _ _ m)
-
--- a slot of each window, by the frames that the fields stand for
-pub advance_is : (a : List ℕ) (t : TimeSync) (f l r f' l' r' : ℤ) (x : Advanced) → f ≡ frame_arg a 0 → l ≡ frame_arg a 1 → r ≡ frame_arg a 2
-    → f' ≡ f → l' ≡ l → r' ≡ r → x ≡ advanced t f' l' r' → x.sync ≡ advanced_by a t
-advance_is a t f l r f' l' r' x p q s p' q' s' e = ap (λ (z : Advanced). z.sync) (rw (p' ∙ p, q' ∙ q, s' ∙ s) at e)
-
-pub ruleset left = (after_opened, after_advanced, after_look, advance_is)

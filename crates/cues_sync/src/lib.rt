@@ -2,50 +2,38 @@
 #![tactic(auto)]
 
 ghost use Rattle.std.specs.Prelude.{◌+◌, ◌≤◌, ◌≡◌, length};
+ghost use Rattle.sheet.specs.Said.{number_of_sync_call};
 ghost use Rattle.time_sync.specs.Windows.{fresh};
 ghost use Rattle.cues_sync.specs.Sync as windows;
 
-use cues_text::{frame_arg, put_number, put_word_value, tell_frame, tell_number};
+use cues_text::{Fields, Told, put_number, put_word_value, tell_frame, tell_number, tell_refusal};
 use digits::put_text;
+use sheet::calls::SyncCall;
 use time_sync::{Reading, TimeSync};
 
-// The calls of time sync, by their numbers within the part.
-const OPEN: u32 = 0;
-
-const ADVANCE: u32 = 1;
-
-const AVERAGE: u32 = 2;
-
-const AVERAGES: u32 = 3;
-
-// What a call leaves: the windows, and where its answer ends.
-#[derive(Clone, Copy)]
-pub struct Told {
-    pub sync: TimeSync,
-    pub at: usize,
-}
-
-fn open(out: &mut [u8], at: usize) -> Told
+fn open(out: &mut [u8], at: usize) -> Told<TimeSync>
     requires { at + 64 ≤ length out.old }
-    ensures { (result.sync ≡ fresh) × (result.at ≤ at + 63) }
+    ensures { (result.part ≡ fresh) × (result.at ≤ at + 63) }
 {
-    let end = tell_number(out, at, 0);
     Told {
-        sync: TimeSync::new(),
-        at: end,
+        part: TimeSync::new(),
+        at: tell_number(out, at, 0),
     }
 }
 
-fn advance(args: &[u64], sync: TimeSync, out: &mut [u8], at: usize) -> Told
-    requires { (2048 ≤ length args.now) × (at + 64 ≤ length out.old) }
-    ensures { (result.sync ≡ windows.advanced_by args.now sync) × (result.at ≤ at + 63) }
+fn advance(fields: &Fields, sync: TimeSync, out: &mut [u8], at: usize) -> Told<TimeSync>
+    requires { at + 64 ≤ length out.old }
+    ensures { (result.part ≡ windows.advanced_by fields.now.values.now sync) × (result.at ≤ at + 63) }
 {
-    let a = sync.advance_frame(frame_arg(args, 0), frame_arg(args, 1), frame_arg(args, 2));
-    let next = a.sync;
-    let end = tell_number(out, at, a.no);
-    Told {
-        sync: next,
-        at: end,
+    match sync.advance_frame(fields.frame(0), fields.frame(1), fields.frame(2)) {
+        Ok(part) => Told {
+            part,
+            at: tell_number(out, at, 0),
+        },
+        Err(refusal) => Told {
+            part: sync,
+            at: tell_refusal(out, at, refusal),
+        },
     }
 }
 
@@ -53,17 +41,18 @@ fn average(sync: TimeSync, out: &mut [u8], at: usize) -> usize
     requires { at + 64 ≤ length out.old }
     ensures { result ≤ at + 63 }
 {
-    tell_frame(out, at, 0, sync.average_frame_advantage())
+    tell_frame(out, at, sync.average_frame_advantage())
 }
 
+#[tactic(auto, using(crate::proofs::Sizes::plain))]
 fn averages(sync: TimeSync, out: &mut [u8], at: usize) -> usize
     requires { at + 64 ≤ length out.old }
     ensures { result ≤ at + 63 }
 {
     let both = sync.averages();
     let number = put_number(out, at, 0);
-    let local = put_word_value(out, number, f32::to_bits(both.local));
-    put_word_value(out, local, f32::to_bits(both.remote))
+    let local = put_word_value(out, number, both.local.to_bits());
+    put_word_value(out, local, both.remote.to_bits())
 }
 
 // The way it leans, and how far.
@@ -75,42 +64,39 @@ fn tell_size(out: &mut [u8], at: usize, way: &[u8], size: u32) -> usize
     put_word_value(out, end, size)
 }
 
+#[tactic(auto, using(crate::proofs::Sizes::plain))]
 fn reading(sync: TimeSync, out: &mut [u8], at: usize) -> usize
     requires { at + 64 ≤ length out.old }
     ensures { result ≤ at + 63 }
 {
     match sync.reading() {
         Reading::Even => put_text(out, at, b"0 even"),
-        Reading::Over(size) => tell_size(out, at, b"0 over", f32::to_bits(size)),
-        Reading::Under(size) => tell_size(out, at, b"0 under", f32::to_bits(size)),
+        Reading::Over(size) => tell_size(out, at, b"0 over", size.to_bits()),
+        Reading::Under(size) => tell_size(out, at, b"0 under", size.to_bits()),
     }
 }
 
-// The calls that only look: the windows stay as they are.
-fn look(call: u32, sync: TimeSync, out: &mut [u8], at: usize) -> usize
+// Any call of time sync. The last three only look: the windows stay as they are.
+#[tactic(auto, unfolding(crate::specs::Sync::after))]
+pub fn make(
+    call: SyncCall,
+    fields: &Fields,
+    sync: TimeSync,
+    out: &mut [u8],
+    at: usize,
+) -> Told<TimeSync>
     requires { at + 64 ≤ length out.old }
-    ensures { result ≤ at + 63 }
+    ensures { (result.part ≡ windows.after (number_of_sync_call call) fields.now.values.now sync) × (result.at ≤ at + 63) }
 {
-    if call == AVERAGE {
-        return average(sync, out, at);
+    let looked = match call {
+        SyncCall::Open => return open(out, at),
+        SyncCall::Advance => return advance(fields, sync, out, at),
+        SyncCall::Average => average(sync, out, at),
+        SyncCall::Averages => averages(sync, out, at),
+        SyncCall::Reading => reading(sync, out, at),
+    };
+    Told {
+        part: sync,
+        at: looked,
     }
-    if call == AVERAGES {
-        return averages(sync, out, at);
-    }
-    reading(sync, out, at)
-}
-
-// Any call of time sync, by its number within the part.
-pub fn make(call: u32, args: &[u64], sync: TimeSync, out: &mut [u8], at: usize) -> Told
-    requires { (2048 ≤ length args.now) × (at + 64 ≤ length out.old) }
-    ensures { (result.sync ≡ windows.after call args.now sync) × (result.at ≤ at + 63) }
-{
-    if call == OPEN {
-        return open(out, at);
-    }
-    if call == ADVANCE {
-        return advance(args, sync, out, at);
-    }
-    let end = look(call, sync, out, at);
-    Told { sync, at: end }
 }

@@ -1,5 +1,6 @@
 -- The shapes of answers: the number of document 01, and the values after it where that is 0.
-use Rattle.std.specs.Prelude.{ℕ, Bool, List, [], ◌∷◌, ◌++◌, eqb, ℤ}
+use Rattle.std.specs.Prelude.{ℕ, ◌+◌, ◌≤◌, ◌≡◌, Bool, List, [], ◌∷◌, ◌++◌, length, eqb, ℤ}
+use Rattle.std.proofs.lemmas.List.Edits.{sets}
 use Rattle.frame_info.specs.Choice.{pick}
 use Rattle.console.specs.declared.Console.{Console}
 use Rattle.digits.specs.Digits.{decimal_text, signed_text, word_text}
@@ -47,3 +48,9 @@ head_value c = word_value c.head ++ word_value c.kind
 
 abbrev pub state_value : Console → List ℕ
 state_value c = head_value c ++ word_value c.seal
+
+-- A text is put into a list from a place on: where it ends, what the list holds then, and how far it reaches at most.
+pub record Puts (text : List ℕ) (most at : ℕ) (old new : List ℕ) (last : ℕ) : Type 0 where
+  pub ends : last ≡ at + length text
+  pub holds : new ≡ sets old at text
+  pub within : last ≤ at + most

@@ -1,48 +1,40 @@
 // The fields of a line as a call takes them, and the shapes of answers: the number, and values after it where that is 0. Each is put into `out`
 // from a place on, and answers where it ends.
+// Kept: the list and the place are two parameters, and no struct. The functions of `digits` take the two, and what a struct lends
+// is said in a contract by what the list holds at its entry and at its exit, which is no plainer.
 #![tactic(auto)]
 
+mod fields;
+
 ghost use Rattle.std.specs.Prelude.{◌≡◌, [], ◌+◌, ◌≤◌, ◌<◌, length};
-ghost use Rattle.std.proofs.lemmas.List.Edits.{sets};
+ghost use Rattle.frame_info.specs.Refusal.{done, number_of, number_given};
 ghost use Rattle.digits.specs.Digits.{decimal_text};
 ghost use Rattle.cues_text.specs.Text as text;
-ghost use Rattle.cues_text.specs.Args.{low_of, number_arg, frame_arg};
+ghost use Rattle.cues_text.specs.Text.{Puts};
 
 use console::Console;
 use digits::{put_byte, put_decimal, put_signed, put_word};
+pub use fields::{Fields, low};
+use frame_info::refusal::Refusal;
 
-// A field's value: the 32 bits that it stands for.
-pub fn low(value: u64) -> u32
-    ensures { result ≡ low_of value }
-{
-    (value % 4294967296) as u32
-}
-
-pub fn number_arg(args: &[u64], field: usize) -> u32
-    requires { field < length args.now }
-    ensures { result ≡ number_arg args.now field }
-{
-    low(args[field])
-}
-
-pub fn frame_arg(args: &[u64], field: usize) -> i32
-    requires { field < length args.now }
-    ensures { result ≡ frame_arg args.now field }
-{
-    frame_info::signed_of(low(args[field]))
+// What a call leaves: the part of the program's world that it was made on, and where its answer ends.
+#[derive(Clone, Copy, Debug, PartialEq, Eq)]
+pub struct Told<T> {
+    pub part: T,
+    pub at: usize,
 }
 
 // A number, with how far it reaches at most.
 pub fn put_number(out: &mut [u8], at: usize, number: u32) -> usize
     requires { at + 10 ≤ length out.old }
-    ensures { (result ≡ at + length (decimal_text number)) × (out.new ≡ sets out.old at (decimal_text number)) × (result ≤ at + 10) }
+    ensures { Puts (decimal_text number) 10 at out.old out.new result }
 {
     put_decimal(out, at, number)
 }
 
 pub fn put_frame_value(out: &mut [u8], at: usize, frame: i32) -> usize
     requires { at + 12 ≤ length out.old }
-    ensures { (result ≡ at + length (text.frame_value frame)) × (out.new ≡ sets out.old at (text.frame_value frame)) × (result ≤ at + 12) }
+    ensures { Puts (text.frame_value frame) 12 at out.old out.new result }
 {
     let next = put_byte(out, at, b' ');
     put_signed(out, next, frame)
@@ -50,7 +42,7 @@ pub fn put_frame_value(out: &mut [u8], at: usize, frame: i32) -> usize
 
 pub fn put_number_value(out: &mut [u8], at: usize, number: u32) -> usize
     requires { at + 11 ≤ length out.old }
-    ensures { (result ≡ at + length (text.number_value number)) × (out.new ≡ sets out.old at (text.number_value number)) × (result ≤ at + 11) }
+    ensures { Puts (text.number_value number) 11 at out.old out.new result }
 {
     let next = put_byte(out, at, b' ');
     put_decimal(out, next, number)
@@ -58,7 +50,7 @@ pub fn put_number_value(out: &mut [u8], at: usize, number: u32) -> usize
 
 pub fn put_word_value(out: &mut [u8], at: usize, word: u32) -> usize
     requires { at + 9 ≤ length out.old }
-    ensures { (result ≡ at + length (text.word_value word)) × (out.new ≡ sets out.old at (text.word_value word)) × (result ≤ at + 9) }
+    ensures { Puts (text.word_value word) 9 at out.old out.new result }
 {
     let next = put_byte(out, at, b' ');
     put_word(out, next, word)
@@ -72,15 +64,14 @@ fn standing_byte(confirmed: bool) -> u8
 
 pub fn put_standing_value(out: &mut [u8], at: usize, confirmed: bool) -> usize
     requires { at + 2 ≤ length out.old }
-    ensures { (result ≡ at + length (text.standing_value confirmed)) × (out.new ≡ sets out.old at (text.standing_value confirmed)) × (result ≤ at + 2) }
+    ensures { Puts (text.standing_value confirmed) 2 at out.old out.new result }
 {
-    let next = put_byte(out, at, b' ');
-    put_byte(out, next, standing_byte(confirmed))
+    put_letter_value(out, at, standing_byte(confirmed))
 }
 
 pub fn put_served_value(out: &mut [u8], at: usize, word: u32, confirmed: bool) -> usize
     requires { at + 11 ≤ length out.old }
-    ensures { (result ≡ at + length (text.served_value word confirmed)) × (out.new ≡ sets out.old at (text.served_value word confirmed)) × (result ≤ at + 11) }
+    ensures { Puts (text.served_value word confirmed) 11 at out.old out.new result }
 {
     let next = put_word_value(out, at, word);
     put_standing_value(out, next, confirmed)
@@ -89,7 +80,7 @@ pub fn put_served_value(out: &mut [u8], at: usize, word: u32, confirmed: bool) -
 // A letter after a space.
 pub fn put_letter_value(out: &mut [u8], at: usize, letter: u8) -> usize
     requires { at + 2 ≤ length out.old }
-    ensures { (result ≡ at + length (text.letter_value letter)) × (out.new ≡ sets out.old at (text.letter_value letter)) × (result ≤ at + 2) }
+    ensures { Puts (text.letter_value letter) 2 at out.old out.new result }
 {
     let next = put_byte(out, at, b' ');
     put_byte(out, next, letter)
@@ -97,7 +88,7 @@ pub fn put_letter_value(out: &mut [u8], at: usize, letter: u8) -> usize
 
 fn put_head_value(out: &mut [u8], at: usize, state: Console) -> usize
     requires { at + 18 ≤ length out.old }
-    ensures { (result ≡ at + length (text.head_value state)) × (out.new ≡ sets out.old at (text.head_value state)) × (result ≤ at + 18) }
+    ensures { Puts (text.head_value state) 18 at out.old out.new result }
 {
     let next = put_word_value(out, at, state.head);
     put_word_value(out, next, state.kind)
@@ -105,7 +96,7 @@ fn put_head_value(out: &mut [u8], at: usize, state: Console) -> usize
 
 pub fn put_state_value(out: &mut [u8], at: usize, state: Console) -> usize
     requires { at + 27 ≤ length out.old }
-    ensures { (result ≡ at + length (text.state_value state)) × (out.new ≡ sets out.old at (text.state_value state)) × (result ≤ at + 27) }
+    ensures { Puts (text.state_value state) 27 at out.old out.new result }
 {
     let next = put_head_value(out, at, state);
     put_word_value(out, next, state.seal)
@@ -113,7 +104,7 @@ pub fn put_state_value(out: &mut [u8], at: usize, state: Console) -> usize
 
 fn put_first_value(out: &mut [u8], at: usize, first: i32, count: u32) -> usize
     requires { at + 23 ≤ length out.old }
-    ensures { (result ≡ at + length (text.first_value first count)) × (out.new ≡ sets out.old at (text.first_value first count)) × (result ≤ at + 23) }
+    ensures { Puts (text.first_value first count) 23 at out.old out.new result }
 {
     let next = put_frame_value(out, at, first);
     put_number_value(out, next, count)
@@ -121,70 +112,65 @@ fn put_first_value(out: &mut [u8], at: usize, first: i32, count: u32) -> usize
 
 pub fn put_fills_value(out: &mut [u8], at: usize, first: i32, count: u32, word: u32) -> usize
     requires { at + 32 ≤ length out.old }
-    ensures { (result ≡ at + length (text.fills_value first count word)) × (out.new ≡ sets out.old at (text.fills_value first count word)) × (result ≤ at + 32) }
+    ensures { Puts (text.fills_value first count word) 32 at out.old out.new result }
 {
     let next = put_first_value(out, at, first, count);
     put_word_value(out, next, word)
 }
 
+// A number, and nothing after it.
 pub fn tell_number(out: &mut [u8], at: usize, number: u32) -> usize
     requires { at + 64 ≤ length out.old }
-    ensures { (result ≡ at + length (text.answer_text number [])) × (out.new ≡ sets out.old at (text.answer_text number [])) × (result ≤ at + 63) }
+    ensures { Puts (text.answer_text number []) 63 at out.old out.new result }
 {
     put_number(out, at, number)
 }
 
-pub fn tell_frame(out: &mut [u8], at: usize, number: u32, frame: i32) -> usize
+// A call that is refused: its number alone, whatever it would have told.
+pub fn tell_refusal(out: &mut [u8], at: usize, refusal: Refusal) -> usize
     requires { at + 64 ≤ length out.old }
-    ensures { (result ≡ at + length (text.answer_text number (text.frame_value frame)))
-        × (out.new ≡ sets out.old at (text.answer_text number (text.frame_value frame))) × (result ≤ at + 63) }
+    ensures { Puts (text.answer_text (number_of refusal) []) 63 at out.old out.new result }
 {
-    let end = put_number(out, at, number);
-    if number != 0 {
-        return end;
-    }
+    tell_number(out, at, refusal.number())
+}
+
+// A setup, which leaves a fresh part even where it is refused.
+pub fn tell_setup(out: &mut [u8], at: usize, refused: Option<Refusal>) -> usize
+    requires { at + 64 ≤ length out.old }
+    ensures { Puts (text.answer_text (number_given refused) []) 63 at out.old out.new result }
+{
+    tell_number(out, at, refused.map_or(0, Refusal::number))
+}
+
+// A call that is done: 0, and what it tells.
+pub fn tell_frame(out: &mut [u8], at: usize, frame: i32) -> usize
+    requires { at + 64 ≤ length out.old }
+    ensures { Puts (text.answer_text done (text.frame_value frame)) 63 at out.old out.new result }
+{
+    let end = put_number(out, at, 0);
     put_frame_value(out, end, frame)
 }
 
-pub fn tell_word(out: &mut [u8], at: usize, number: u32, word: u32) -> usize
+pub fn tell_word(out: &mut [u8], at: usize, word: u32) -> usize
     requires { at + 64 ≤ length out.old }
-    ensures { (result ≡ at + length (text.answer_text number (text.word_value word)))
-        × (out.new ≡ sets out.old at (text.answer_text number (text.word_value word))) × (result ≤ at + 63) }
+    ensures { Puts (text.answer_text done (text.word_value word)) 63 at out.old out.new result }
 {
-    let end = put_number(out, at, number);
-    if number != 0 {
-        return end;
-    }
+    let end = put_number(out, at, 0);
     put_word_value(out, end, word)
 }
 
-pub fn tell_served(out: &mut [u8], at: usize, number: u32, word: u32, confirmed: bool) -> usize
+pub fn tell_served(out: &mut [u8], at: usize, word: u32, confirmed: bool) -> usize
     requires { at + 64 ≤ length out.old }
-    ensures { (result ≡ at + length (text.answer_text number (text.served_value word confirmed)))
-        × (out.new ≡ sets out.old at (text.answer_text number (text.served_value word confirmed))) × (result ≤ at + 63) }
+    ensures { Puts (text.answer_text done (text.served_value word confirmed)) 63 at out.old out.new result }
 {
-    let end = put_number(out, at, number);
-    if number != 0 {
-        return end;
-    }
+    let end = put_number(out, at, 0);
     put_served_value(out, end, word, confirmed)
 }
 
-pub fn tell_fills(
-    out: &mut [u8],
-    at: usize,
-    number: u32,
-    first: i32,
-    count: u32,
-    word: u32,
-) -> usize
+pub fn tell_fills(out: &mut [u8], at: usize, first: i32, count: u32, word: u32) -> usize
     requires { at + 64 ≤ length out.old }
-    ensures { (result ≡ at + length (text.answer_text number (text.fills_value first count word)))
-        × (out.new ≡ sets out.old at (text.answer_text number (text.fills_value first count word))) × (result ≤ at + 63) }
+    ensures { Puts (text.answer_text done (text.fills_value first count word)) 63 at out.old out.new result }
 {
-    let end = put_number(out, at, number);
-    if number != 0 {
-        return end;
-    }
+    let end = put_number(out, at, 0);
     put_fills_value(out, end, first, count, word)
 }

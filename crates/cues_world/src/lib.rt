@@ -3,20 +3,24 @@
 #![tactic(auto)]
 
 ghost use Rattle.std.specs.Prelude.{◌≡◌, ◌+◌, ◌≤◌, ◌<◌, length, set};
-ghost use Rattle.std.proofs.lemmas.List.Edits.{sets};
 ghost use Rattle.sheet.specs.Calls as calls;
+ghost use Rattle.sheet.specs.Said.{number_of_queue_call, number_of_sync_call};
 ghost use Rattle.sheet.specs.Reading.{reading_of};
+ghost use Rattle.cues_queue.specs.Queue.{queue_after};
+ghost use Rattle.cues_sync.specs.Sync.{after};
 ghost use Rattle.cues_world.specs.Force as force;
-ghost use Rattle.cues_world.specs.Force.{Whole, idle_text, Idle};
+ghost use Rattle.cues_world.specs.Force.{Whole, Idle};
 
+use cues_text::Fields;
 use desk_value::Desk;
 use input_queue_value::InputQueue;
-use sheet::calls::{DELTA, DESK, LAYER, PASSED, SYNC};
+use sheet::Line;
+use sheet::calls::{Call, DeltaCall, DeskCall, LayerCall, QueueCall, SyncCall};
 use sync_layer_value::SyncLayer;
 use time_sync::TimeSync;
 
 // What is in force, and how many bytes of the output are filled.
-#[derive(Clone, Copy)]
+#[derive(Clone, Copy, Debug, PartialEq, Eq)]
 pub struct World {
     pub queue: InputQueue,
     pub layer: SyncLayer,
@@ -26,97 +30,17 @@ pub struct World {
 }
 
 // At the start each part is fresh: one seat, with limit, delay and predictor 0.
-fn fresh_queue() -> InputQueue
-    ensures { result ≡ (force.start).queue }
-{
-    let o = InputQueue::new(0, 0);
-    o.queue
-}
-
-fn fresh_layer() -> SyncLayer
-    ensures { result ≡ (force.start).layer }
-{
-    let delays = [0u32; 1];
-    let o = SyncLayer::new(0, 0, &delays);
-    o.layer
-}
-
-fn fresh_desk() -> Desk
-    ensures { result ≡ (force.start).desk }
-{
-    let delays = [0u32; 1];
-    let o = Desk::setup(0, 0, &delays);
-    o.desk
-}
-
 pub fn start() -> World
     ensures { result ≡ force.start }
 {
-    let queue = fresh_queue();
-    let layer = fresh_layer();
-    let desk = fresh_desk();
+    let delays = [0u32; 1];
     World {
-        queue,
-        layer,
+        queue: InputQueue::new(0, 0).queue,
+        layer: SyncLayer::new(0, 0, &delays).layer,
         sync: TimeSync::new(),
-        desk,
+        desk: Desk::setup(0, 0, &delays).desk,
         filled: 0,
     }
-}
-
-// A line that makes no call: nothing for one that is passed over, `bad` for any other.
-fn put_idle(call: u32, out: &mut [u8], at: usize) -> usize
-    requires { at + 4 ≤ length out.old }
-    ensures { (result ≡ at + length (idle_text call)) × (out.new ≡ sets out.old at (idle_text call)) × (result ≤ at + 4) }
-{
-    if call == PASSED {
-        return at;
-    }
-    digits::put_text(out, at, b"bad\n")
-}
-
-fn with_queue(world: World, queue: InputQueue, filled: usize) -> World
-    ensures { result ≡ force.with_queue world queue filled }
-{
-    let mut next = world;
-    next.queue = queue;
-    next.filled = filled;
-    next
-}
-
-fn with_layer(world: World, layer: SyncLayer, filled: usize) -> World
-    ensures { result ≡ force.with_layer world layer filled }
-{
-    let mut next = world;
-    next.layer = layer;
-    next.filled = filled;
-    next
-}
-
-fn with_sync(world: World, sync: TimeSync, filled: usize) -> World
-    ensures { result ≡ force.with_sync world sync filled }
-{
-    let mut next = world;
-    next.sync = sync;
-    next.filled = filled;
-    next
-}
-
-fn with_desk(world: World, desk: Desk, filled: usize) -> World
-    ensures { result ≡ force.with_desk world desk filled }
-{
-    let mut next = world;
-    next.desk = desk;
-    next.filled = filled;
-    next
-}
-
-fn with_filled(world: World, filled: usize) -> World
-    ensures { result ≡ force.with_filled world filled }
-{
-    let mut next = world;
-    next.filled = filled;
-    next
 }
 
 // Ends an answer's line.
@@ -127,92 +51,104 @@ fn end_answer(out: &mut [u8], at: usize) -> usize
     digits::put_byte(out, at, b'\n')
 }
 
-// A call of each part: the part is taken out, changed and put back.
-fn queue_line(call: u32, args: &[u64], world: World, out: &mut [u8]) -> World
-    requires { (2048 ≤ length args.now) × Whole world × (world.filled + 16385 ≤ length out.old) }
-    ensures { Whole result × (result.filled ≤ world.filled + 16384) }
+// A call of each part, which alone is new after it.
+fn queue_line(call: QueueCall, fields: &Fields, world: World, out: &mut [u8]) -> World
+    requires { Whole world × (world.filled + 16385 ≤ length out.old) }
+    ensures { Whole result × (result.filled ≤ world.filled + 16384)
+        × (result ≡ force.with_queue world (queue_after (number_of_queue_call call) fields.now.values.now world.queue) result.filled) }
 {
-    let queue = world.queue;
-    let told = cues_queue::make(call, args, queue, out, world.filled);
-    let next = told.queue;
-    with_queue(world, next, end_answer(out, told.at))
-}
-
-fn layer_line(call: u32, count: u32, args: &[u64], world: World, out: &mut [u8]) -> World
-    requires { (2048 ≤ length args.now) × (count < 2048) × Whole world × (world.filled + 16385 ≤ length out.old) }
-    ensures { Whole result × (result.filled ≤ world.filled + 16384) }
-{
-    let layer = world.layer;
-    let told = cues_layer::make(call, count, args, layer, out, world.filled);
-    let next = told.layer;
-    with_layer(world, next, end_answer(out, told.at))
-}
-
-fn sync_line(call: u32, args: &[u64], world: World, out: &mut [u8]) -> World
-    requires { (2048 ≤ length args.now) × Whole world × (world.filled + 16385 ≤ length out.old) }
-    ensures { Whole result × (result.filled ≤ world.filled + 16384) }
-{
-    let sync = world.sync;
-    let told = cues_sync::make(call, args, sync, out, world.filled);
-    let next = told.sync;
-    with_sync(world, next, end_answer(out, told.at))
-}
-
-fn delta_line(
-    call: u32,
-    line: &[u8],
-    count: u32,
-    args: &[u64],
-    world: World,
-    out: &mut [u8],
-) -> World
-    requires { (2048 ≤ length args.now) × (count < 2048) × Whole world × (world.filled + 16385 ≤ length out.old) }
-    ensures { Whole result × (result.filled ≤ world.filled + 16384) }
-{
-    let end = cues_delta::make(call, line, count, args, out, world.filled);
-    with_filled(world, end_answer(out, end))
-}
-
-fn desk_line(call: u32, count: u32, args: &[u64], world: World, out: &mut [u8]) -> World
-    requires { (2048 ≤ length args.now) × (count < 2048) × Whole world × (world.filled + 16385 ≤ length out.old) }
-    ensures { Whole result × (result.filled ≤ world.filled + 16384) }
-{
-    let desk = world.desk;
-    let told = cues_desk::make(call, count, args, desk, out, world.filled);
-    let next = told.desk;
-    with_desk(world, next, end_answer(out, told.at))
-}
-
-// A call, by its number: each part has 64 of them, from its setup's on.
-fn make(call: u32, count: u32, line: &[u8], args: &[u64], world: World, out: &mut [u8]) -> World
-    requires { (2048 ≤ length args.now) × (count < 2048) × Whole world × (world.filled + 16385 ≤ length out.old) }
-    ensures { Whole result × (result.filled ≤ world.filled + 16384) }
-{
-    if call < LAYER {
-        return queue_line(call, args, world, out);
+    let told = cues_queue::make(call, fields, world.queue, out, world.filled);
+    World {
+        queue: told.part,
+        filled: end_answer(out, told.at),
+        ..world
     }
-    if call < SYNC {
-        return layer_line(call - LAYER, count, args, world, out);
-    }
-    if call < DELTA {
-        return sync_line(call - SYNC, args, world, out);
-    }
-    if call < DESK {
-        return delta_line(call - DELTA, line, count, args, world, out);
-    }
-    desk_line(call - DESK, count, args, world, out)
 }
 
-// Answers a line. One that makes no call leaves what is in force as it is.
+fn layer_line(call: LayerCall, fields: &Fields, world: World, out: &mut [u8]) -> World
+    requires { Whole world × (world.filled + 16385 ≤ length out.old) }
+    ensures { Whole result × (result.filled ≤ world.filled + 16384)
+        × (result ≡ force.with_layer world result.layer result.filled) }
+{
+    let told = cues_layer::make(call, fields, world.layer, out, world.filled);
+    World {
+        layer: told.part,
+        filled: end_answer(out, told.at),
+        ..world
+    }
+}
+
+fn sync_line(call: SyncCall, fields: &Fields, world: World, out: &mut [u8]) -> World
+    requires { Whole world × (world.filled + 16385 ≤ length out.old) }
+    ensures { Whole result × (result.filled ≤ world.filled + 16384)
+        × (result ≡ force.with_sync world (after (number_of_sync_call call) fields.now.values.now world.sync) result.filled) }
+{
+    let told = cues_sync::make(call, fields, world.sync, out, world.filled);
+    World {
+        sync: told.part,
+        filled: end_answer(out, told.at),
+        ..world
+    }
+}
+
+fn delta_line(call: DeltaCall, line: &[u8], fields: &Fields, world: World, out: &mut [u8]) -> World
+    requires { Whole world × (world.filled + 16385 ≤ length out.old) }
+    ensures { Whole result × (result.filled ≤ world.filled + 16384)
+        × (result ≡ force.with_filled world result.filled) }
+{
+    let end = cues_delta::make(call, line, fields, out, world.filled);
+    World {
+        filled: end_answer(out, end),
+        ..world
+    }
+}
+
+fn desk_line(call: DeskCall, fields: &Fields, world: World, out: &mut [u8]) -> World
+    requires { Whole world × (world.filled + 16385 ≤ length out.old) }
+    ensures { Whole result × (result.filled ≤ world.filled + 16384)
+        × (result ≡ force.with_desk world result.desk result.filled) }
+{
+    let told = cues_desk::make(call, fields, world.desk, out, world.filled);
+    World {
+        desk: told.part,
+        filled: end_answer(out, told.at),
+        ..world
+    }
+}
+
+// A call of any part.
+fn make(call: Call, line: &[u8], fields: &Fields, world: World, out: &mut [u8]) -> World
+    requires { Whole world × (world.filled + 16385 ≤ length out.old) }
+    ensures { Whole result × (result.filled ≤ world.filled + 16384) }
+{
+    match call {
+        Call::Queue(call) => queue_line(call, fields, world, out),
+        Call::Layer(call) => layer_line(call, fields, world, out),
+        Call::Sync(call) => sync_line(call, fields, world, out),
+        Call::Delta(call) => delta_line(call, line, fields, world, out),
+        Call::Desk(call) => desk_line(call, fields, world, out),
+    }
+}
+
+// Answers a line. One that makes no call leaves what is in force as it is: it is passed over, or `bad`
+// is its answer.
 pub fn answer(line: &[u8], args: &mut [u64], world: World, out: &mut [u8]) -> World
     requires { (2048 ≤ length args.old) × Whole world × (world.filled + 16385 ≤ length out.old) }
     ensures { Whole result × (result.filled ≤ world.filled + 16384)
         × (calls.PASSED ≤ (reading_of line.now).line.call → Idle (reading_of line.now).line.call out.old out.new world result) }
 {
-    let read = sheet::read_line(line, args);
-    let call = read.call;
-    if PASSED <= call {
-        return with_filled(world, put_idle(call, out, world.filled));
+    match sheet::read_line(line, args) {
+        Line::Passed => world,
+        Line::Bad => World {
+            filled: digits::put_text(out, world.filled, b"bad\n"),
+            ..world
+        },
+        Line::Asks { call, count } => {
+            let fields = Fields {
+                values: &args[..],
+                count,
+            };
+            make(call, line, &fields, world, out)
+        }
     }
-    make(call, read.count, line, &args[..], world, out)
 }

@@ -1,13 +1,8 @@
-use native.Mathlib.Omega.{arith}
 use mir.Facts.{to_z-of_z}
-use Rattle.cues_text.specs.Text.{frame_value, number_value}
-use Rattle.cues_text.proofs.Texts.{text_end, text_list}
+use Rattle.cues_text.proofs.Texts.{joined}
 use Rattle.cues_text.proofs.put_first_value.Goals as goal
 
 pub returns : goal.returns
 returns c =
-    let q = c.args in
-    let b = c.put_frame_value-next.ensures in
-    let s = c.put_number_value.ensures in
     let z = to_z-of_z c.ranges.first in
-    (text_end q.out.now _ q.at _ (frame_value q.first) (number_value q.count) (rw z at b.0) (rw z at b.1) _ s.0, text_list q.out.now _ q.at _ (frame_value q.first) (number_value q.count) (rw z at b.0) (rw z at b.1) _ s.1, omega (arith, b.2, s.2))
+    joined (rw z at c.put_frame_value-next.ensures) c.put_number_value.ensures

@@ -1,11 +1,5 @@
-use native.Mathlib.Omega.{arith}
-use Rattle.cues_text.specs.Text.{word_value, head_value}
-use Rattle.cues_text.proofs.Texts.{text_end, text_list}
+use Rattle.cues_text.proofs.Texts.{joined}
 use Rattle.cues_text.proofs.put_state_value.Goals as goal
 
 pub returns : goal.returns
-returns c =
-    let q = c.args in
-    let b = c.put_head_value-next.ensures in
-    let s = c.put_word_value.ensures in
-    (text_end q.out.now _ q.at _ (head_value q.state) (word_value q.state.seal) b.0 b.1 _ s.0, text_list q.out.now _ q.at _ (head_value q.state) (word_value q.state.seal) b.0 b.1 _ s.1, omega (arith, b.2, s.2))
+returns c = joined c.put_head_value-next.ensures c.put_word_value.ensures

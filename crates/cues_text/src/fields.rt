@@ -1,0 +1,48 @@
+// The fields of a line as a call takes them.
+ghost use Rattle.std.specs.Prelude.{◌≡◌, ◌-◌, ◌≤◌, ◌<◌, length};
+ghost use Rattle.cues_text.specs.Args.{low_of, number_arg, frame_arg};
+
+// Their values, one each, in a list with room for those of the longest line, and how many the line has.
+// A field that it lacks has whatever stands there.
+#[derive(Clone, Copy, Debug, PartialEq, Eq)]
+pub struct Fields<'a> {
+    pub values: &'a [u64],
+    pub count: u32,
+    ghost room: { 2048 ≤ length values.now },
+    ghost few: { count < 2048 },
+}
+
+impl Fields<'_> {
+    pub fn number(&self, field: usize) -> u32
+        requires { field < length self.now.values.now }
+        ensures { result ≡ number_arg self.now.values.now field }
+    {
+        low(self.values[field])
+    }
+
+    pub fn frame(&self, field: usize) -> i32
+        requires { field < length self.now.values.now }
+        ensures { result ≡ frame_arg self.now.values.now field }
+    {
+        low(self.values[field]).cast_signed()
+    }
+
+    // The numbers of the fields from one on, as many as the line has. Answers how many.
+    pub fn numbers(&self, from: usize, numbers: &mut [u32]) -> usize
+        requires { (from ≤ 2048) × (2048 ≤ length numbers.old) }
+        ensures { result ≡ self.now.count - from }
+    {
+        let n = (self.count as usize).saturating_sub(from);
+        for (number, &value) in numbers.iter_mut().zip(&self.values[from..from + n]) {
+            *number = low(value);
+        }
+        n
+    }
+}
+
+// A field's value: the 32 bits that it stands for.
+pub fn low(value: u64) -> u32
+    ensures { result ≡ low_of value }
+{
+    (value % 4294967296) as u32
+}
