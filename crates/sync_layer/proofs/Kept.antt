@@ -1,17 +1,16 @@
 -- What a call presumes of a layer is given by a setup and kept by every call, refused or not. Assumes nothing.
 use Prim.Native.Nat.{ℕ, zero, suc, ◌+◌, ◌-◌, ◌<◌, ◌≤◌}
 use native.Mathlib.Omega.{arith}
-use mathlib.Core.Path.{◌≡◌, refl, sym, ◌∙◌}
-use mathlib.Core.Bool.{Bool, true, false, true≢false}
+use mathlib.Core.Path.{◌≡◌, refl}
+use mathlib.Core.Bool.{Bool, true, false}
 use mathlib.Core.Logic.{⊎_elim}
-use Prim.{absurd}
 use mathlib.Core.List.{List, [], ◌∷◌}
 use lib.ListN.{length, get_or, length-set}
 use lib.Dec.{eqb}
 use lib.IntN.{ℤ}
 use borrow.Author.Tests.{le-leb}
 use Rattle.frame_info.specs.Choice.{pick}
-use Rattle.frame_info.proofs.Split.{split_eqb, split_ltb, split_leb, split_bool}
+use Rattle.frame_info.proofs.Split.{split_eqb, split_ltb, split_bool}
 use Rattle.frame_info.specs.Frame.{last_count, max_delay, count_of}
 use Rattle.frame_info.specs.Word.{predicted}
 use Rattle.frame_info.specs.declared.PlayerInput.{PlayerInput}
@@ -45,11 +44,7 @@ clear_long (suc n) l = simp length-set (clear_long n l)
 
 input_long : (l : List ℕ) (base : ℕ) (s : QueueState) (x : PlayerInput) → length (queue.input_words l base s x) ≡ length l
 unfolding queue.input_words
-input_long l base s x =
-    ⊎_elim
-    (λ a. simp a.1 (add_long l base s (count_of x.frame - 1) x.input))
-    (λ a. simp a.1)
-    (split_eqb (queue.add_refusal s (count_of x.frame)) 0)
+input_long l base s x = grind (arith, add_long)
 
 placed_long : (t : Bool) (l words : List ℕ) (i : ℕ) (x : PlayerInput) → length (pick t (calls.placed_words l words i x) words) ≡ length words
 placed_long true l words i x = input_long words (ring_of i) (seat_at l i) x
@@ -83,10 +78,8 @@ module _ (y : LayerState) (l : List ℕ) (h : Seated y l) where
 -- delays in range are in range one by one, past the last too, where 0 is read
 pub range_each : (l : List ℕ) → calls.delays_in_range l ≡ true → (i : ℕ) → get_or l i 0 ≤ max_delay
 range_each [] e i = omega arith
-range_each (d ∷ l) e zero =
-    ⊎_elim (λ a. a.0) (λ a. absurd (true≢false (sym e ∙ simp a.1))) (split_leb d max_delay)
-range_each (d ∷ l) e (suc i) =
-    ⊎_elim (λ a. range_each l (simp a.1 at e) i) (λ a. absurd (true≢false (sym e ∙ simp a.1))) (split_leb d max_delay)
+range_each (d ∷ l) e zero = grind arith
+range_each (d ∷ l) e (suc i) = range_each l (grind arith) i
 
 -- and back
 pub each_range : (l : List ℕ) → ((i : ℕ) → i < length l → get_or l i 0 ≤ max_delay) → calls.delays_in_range l ≡ true
@@ -148,29 +141,17 @@ pub record Same (y z : LayerState) : Type 0 where
 same : (y : LayerState) → Same y y
 same y = record { seats = refl; limit = refl; predictor = refl }
 
-current_same : (y : LayerState) (f : ℕ) → Same y (calls.with_current y f)
-current_same y f = record { seats = refl; limit = refl; predictor = refl }
-
 advanced_same : (y : LayerState) → Same y (calls.advanced y).layer
 unfolding calls.advanced
-advanced_same y =
-    ⊎_elim (λ a. simp a.1 (current_same y (y.current_frame + 1))) (λ a. simp a.1 (same y)) (split_ltb (y.current_frame + 1) last_count)
+advanced_same y = record { seats = grind arith; limit = grind arith; predictor = grind arith }
 
 loaded_same : (y : LayerState) (slots : List ℕ) (f : ℤ) → Same y (calls.loaded y slots f).layer
 unfolding calls.loaded
-loaded_same y slots f =
-    ⊎_elim
-    (λ a. simp a.1 (current_same y (count_of f - 1)))
-    (λ a. simp a.1 (same y))
-    (split_eqb (calls.load_refusal y slots (count_of f)) 0)
+loaded_same y slots f = record { seats = grind arith; limit = grind arith; predictor = grind arith }
 
 confirmed_same : (y : LayerState) (l : List ℕ) (f : ℤ) (sparse : Bool) → Same y (calls.confirmed y l f sparse).layer
 unfolding calls.confirmed
-confirmed_same y l f sparse =
-    ⊎_elim
-    (λ a. simp a.1 (record { seats = refl; limit = refl; predictor = refl }))
-    (λ a. simp a.1 (same y))
-    (split_eqb (calls.confirm_refusal y l (count_of f) sparse) 0)
+confirmed_same y l f sparse = record { seats = grind arith; limit = grind arith; predictor = grind arith }
 
 -- Inputs
 module _ (y : LayerState) (l : List ℕ) (h : Seated y l) where

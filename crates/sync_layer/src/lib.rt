@@ -337,7 +337,7 @@ fn place_input(seats: &mut [u32], words: &mut [u32], seat: usize, input: PlayerI
         × (seats.new ≡ calls.placed_seats seats.old words.old seat input)
         × (words.new ≡ calls.placed_words seats.old words.old seat input) }
 {
-    let s = seat_at(&seats[..], seat);
+    let s = seat_at(seats, seat);
     let frame = count_of(input.frame) - 1;
     let stored = input_queue::store(words, seat * INPUT_QUEUE_LENGTH, s, frame, input.input);
     set_seat(seats, seat, stored.state);
@@ -358,7 +358,7 @@ pub fn add_remote_input(
         × (seats.new ≡ calls.remote_seats layer seats.old words.old seat input)
         × (words.new ≡ calls.remote_words layer seats.old words.old seat input) }
 {
-    remote_refusal(&seats[..], layer, seat, count_of(input.frame))?;
+    remote_refusal(seats, layer, seat, count_of(input.frame))?;
     Ok(place_input(seats, words, seat as usize, input))
 }
 
@@ -376,7 +376,7 @@ pub fn add_local_input(
         × (seats.new ≡ calls.local_seats layer seats.old words.old seat input)
         × (words.new ≡ calls.local_words layer seats.old words.old seat input) }
 {
-    local_refusal(&seats[..], layer, seat, count_of(input.frame))?;
+    local_refusal(seats, layer, seat, count_of(input.frame))?;
     Ok(place_input(seats, words, seat as usize, input))
 }
 
@@ -397,7 +397,7 @@ pub fn set_frame_delay(
         return Err(Refusal::NoSuchSeat);
     }
     let i = seat as usize;
-    let s = seat_at(&seats[..], i);
+    let s = seat_at(seats, i);
     let d = input_queue::set_frame_delay(words, i * INPUT_QUEUE_LENGTH, s, delay)?;
     set_seat(seats, i, d.state);
     Ok(Announced {
@@ -465,7 +465,7 @@ pub fn set_last_confirmed_frame(
 {
     let count = count_of(frame);
     let cap = confirm_cap(layer, count, sparse);
-    confirm_refusal(&seats[..], layer, count, cap)?;
+    confirm_refusal(seats, layer, count, cap)?;
     if cap >= 2 {
         discard_seats(seats, layer.num_players as usize, cap - 2);
     }

@@ -60,7 +60,7 @@ pub fn reset_seats(seats: &mut [u32], n: usize)
     ensures { seats.new ≡ map_seats n (λ i q. reset q) seats.old }
 {
     for i in 0..n {
-        let s = seat_at(&seats[..], i);
+        let s = seat_at(seats, i);
         set_seat(seats, i, input_queue::reset(s));
     }
 }
@@ -71,7 +71,7 @@ pub fn discard_seats(seats: &mut [u32], n: usize, frame: u32)
     ensures { seats.new ≡ map_seats n (λ i q. discard q frame) seats.old }
 {
     for i in 0..n {
-        let s = seat_at(&seats[..], i);
+        let s = seat_at(seats, i);
         set_seat(seats, i, input_queue::discard(s, frame));
     }
 }

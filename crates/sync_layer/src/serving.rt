@@ -93,7 +93,7 @@ pub fn ask_seat(seats: &mut [u32], words: &[u32], predictor: u32, count: u32, se
     ensures { (result ≡ asking (predicted predictor) (word_at words.now (ring_of seat)) (seat_at seats.old seat) (count - 1))
         × (seats.new ≡ set_seat seats.old seat result.state) }
 {
-    let s = seat_at(&seats[..], seat);
+    let s = seat_at(seats, seat);
     let asked = input_queue::ask(words, seat * INPUT_QUEUE_LENGTH, s, predictor, count);
     set_seat(seats, seat, asked.state);
     asked
@@ -180,7 +180,7 @@ pub fn synchronized_inputs_into(
         × (inputs.new ≡ calls.served_words layer seats.old words.now disconnected.now last_frame.now inputs.old)
         × (statuses.new ≡ calls.statuses layer seats.old words.now disconnected.now last_frame.now statuses.old) }
 {
-    request_refusal(&seats[..], layer, disconnected, last_frame)?;
+    request_refusal(seats, layer, disconnected, last_frame)?;
     serve_seats(
         seats,
         words,

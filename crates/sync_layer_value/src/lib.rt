@@ -151,7 +151,7 @@ impl SyncLayer {
         sync_layer::latest_saved_state_in_range(&self.slots, self.state, start, end)
     }
 
-    #[tactic(auto, using(frame_info::proofs::Refusals::number_some), unfolding(crate::specs::Value::local, sync_layer::specs::Calls::Inputs::local, sync_layer::specs::Calls::Inputs::local_seats, sync_layer::specs::Calls::Inputs::local_words))]
+    #[tactic(auto, unfolding(crate::specs::Value::local, sync_layer::specs::Calls::Inputs::local, sync_layer::specs::Calls::Inputs::local_seats, sync_layer::specs::Calls::Inputs::local_words))]
     pub fn add_local_input(mut self, seat: u32, input: PlayerInput) -> Result<PlacedLayer, Refusal>
         requires { held.Whole self }
         ensures { placed_said self result ≡ held.local self seat input }
@@ -161,7 +161,7 @@ impl SyncLayer {
         Ok(PlacedLayer { place, layer: self })
     }
 
-    #[tactic(auto, using(frame_info::proofs::Refusals::number_some), unfolding(crate::specs::Value::remote, sync_layer::specs::Calls::Inputs::remote, sync_layer::specs::Calls::Inputs::remote_seats, sync_layer::specs::Calls::Inputs::remote_words))]
+    #[tactic(auto, unfolding(crate::specs::Value::remote, sync_layer::specs::Calls::Inputs::remote, sync_layer::specs::Calls::Inputs::remote_seats, sync_layer::specs::Calls::Inputs::remote_words))]
     pub fn add_remote_input(mut self, seat: u32, input: PlayerInput) -> Result<PlacedLayer, Refusal>
         requires { held.Whole self }
         ensures { placed_said self result ≡ held.remote self seat input }
@@ -195,7 +195,7 @@ impl SyncLayer {
         self
     }
 
-    #[tactic(auto, using(frame_info::proofs::Refusals::number_some), unfolding(crate::specs::Value::served, sync_layer::specs::Calls::Requests::served_seats, sync_layer::specs::Calls::Requests::served_words, sync_layer::specs::Calls::Requests::statuses))]
+    #[tactic(auto, unfolding(crate::specs::Value::served, sync_layer::specs::Calls::Requests::served_seats, sync_layer::specs::Calls::Requests::served_words, sync_layer::specs::Calls::Requests::statuses))]
     pub fn synchronized_inputs(
         mut self,
         disconnected: &[bool],
@@ -223,7 +223,7 @@ impl SyncLayer {
         })
     }
 
-    #[tactic(auto, using(frame_info::proofs::Refusals::number_some), unfolding(crate::specs::Value::confirmed_inputs, sync_layer::specs::Calls::Requests::confirmed_frames, sync_layer::specs::Calls::Requests::confirmed_words))]
+    #[tactic(auto, unfolding(crate::specs::Value::confirmed_inputs, sync_layer::specs::Calls::Requests::confirmed_frames, sync_layer::specs::Calls::Requests::confirmed_words))]
     pub fn confirmed_inputs(
         self,
         disconnected: &[bool],
@@ -248,7 +248,7 @@ impl SyncLayer {
         Ok(ConfirmedInputs { frames, inputs })
     }
 
-    #[tactic(auto, using(frame_info::proofs::Refusals::number_some), unfolding(crate::specs::Value::confirmed, sync_layer::specs::Calls::Confirm::confirmed, sync_layer::specs::Calls::Confirm::confirmed_seats))]
+    #[tactic(auto, unfolding(crate::specs::Value::confirmed, sync_layer::specs::Calls::Confirm::confirmed, sync_layer::specs::Calls::Confirm::confirmed_seats))]
     pub fn set_last_confirmed_frame(
         mut self,
         frame: i32,
