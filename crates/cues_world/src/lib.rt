@@ -1,6 +1,6 @@
 // What is in force while a sheet is read, as one value, and one line of a sheet: it is read, its
 // call is made on the part of the world that it names, and its answer's line is written.
-#![tactic(auto)]
+#![tactic(auto, using(crate::proofs::Keeping::keeping))]
 
 ghost use Rattle.std.specs.Prelude.{◌≡◌, ◌+◌, ◌≤◌, ◌<◌, length, set};
 ghost use Rattle.sheet.specs.Calls as calls;
@@ -30,6 +30,7 @@ pub struct World {
 }
 
 // At the start each part is fresh: one seat, with limit, delay and predictor 0.
+#[tactic(auto, unfolding(crate::specs::Force::start))]
 pub fn start() -> World
     ensures { result ≡ force.start }
 {

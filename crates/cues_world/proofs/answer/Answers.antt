@@ -1,9 +1,13 @@
 use native.Mathlib.Omega.{arith}
-use Rattle.cues_world.proofs.Keeping.{args_same}
-use Rattle.sheet.proofs.Counts.{count_few}
+use borrow.Author.Rules.{rules}
+use Rattle.cues_world.proofs.Keeping.{passed_told, bad_told}
 use Rattle.cues_world.proofs.answer.Goals as goal
 
-pub make-requires : goal.make-requires
-make-requires c =
-    let r = c.read_line-read.ensures in
-    (omega (arith, args_same c.args.line.now c.args.args.now _ r.1, c.requires.0), count_few c.args.line.now _ r.0, c.requires.1, c.requires.2)
+pub returns-in-Passed : goal.returns-in-Passed
+returns-in-Passed c = (c.requires.1, omega arith, λ p. passed_told _ _ c.read_line.ensures.0 _ _ (search rules))
+
+pub returns-in-Bad : goal.returns-in-Bad
+returns-in-Bad c =
+    let w = c.requires.1 in
+    let t = c.put_text.ensures in
+    (record { queue = w.queue; layer = w.layer; desk = w.desk }, omega (arith, t.0), λ p. bad_told _ _ c.read_line.ensures.0 _ _ (search rules) _ _ t.0 t.1)
