@@ -16,6 +16,10 @@ digit_of b =
     (pick (leb 65 b && leb b 70) (b - 55)
     16))
 
+-- its worth where it is a digit of the base
+unfoldable pub digit_in : ℕ → ℕ → Option ℕ
+digit_in base b = pick (ltb (digit_of b) base) (Some (digit_of b)) None
+
 -- every byte is a digit of the base
 unfoldable pub only_digits : ℕ → List ℕ → Bool
 only_digits base [] = true

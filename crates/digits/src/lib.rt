@@ -3,23 +3,25 @@
 
 ghost use Rattle.std.specs.Prelude.{◌≡◌, ◌+◌, ◌*◌, ◌≤◌, ◌<◌, length, set, pos, neg_ℤ};
 ghost use Rattle.std.proofs.lemmas.List.Edits.{sets};
-ghost use Rattle.digits.specs.Digits.{digit_of, number_of, and_then, pattern_of, decimal_of, word_of, signed_of, digit_byte, last_digits, width_of, decimal_text, signed_text, word_text, pair_text};
+ghost use Rattle.digits.specs.Digits.{digit_in, number_of, and_then, pattern_of, decimal_of, word_of, signed_of, digit_byte, last_digits, width_of, decimal_text, signed_text, word_text, pair_text};
 
-// A byte's worth as a digit, and 16 where it is none.
-#[tactic(auto, unfolding(crate::specs::Digits::digit_of))]
-fn digit_of(b: u8) -> u32
-    ensures { result ≡ digit_of b }
+// A byte's worth as a digit of a base, where it is one.
+#[tactic(auto, unfolding(crate::specs::Digits::digit_of, crate::specs::Digits::digit_in))]
+fn to_digit(b: u8, base: u32) -> Option<u32>
+    requires { base ≤ 16 }
+    ensures { result ≡ digit_in base b }
 {
-    match b {
-        b'0'..=b'9' => u32::from(b - b'0'),
-        b'a'..=b'f' => u32::from(b - b'a') + 10,
-        b'A'..=b'F' => u32::from(b - b'A') + 10,
-        _ => 16,
-    }
+    let worth = match b {
+        b'0'..=b'9' => b - b'0',
+        b'a'..=b'f' => b - b'a' + 10,
+        b'A'..=b'F' => b - b'A' + 10,
+        _ => return None,
+    };
+    Some(u32::from(worth)).filter(|d| *d < base)
 }
 
 // A number in a base. Once it is too large, more digits can't make it smaller.
-#[tactic(auto, using(crate::proofs::Reading::numbers))]
+#[tactic(auto, using(crate::proofs::Reading::numbers), unfolding(crate::specs::Digits::digit_in))]
 fn read_number(s: &[u8], base: u32) -> Option<u32>
     requires { (1 ≤ base) × (base ≤ 16) }
     ensures { result ≡ number_of base s.now }
@@ -29,10 +31,7 @@ fn read_number(s: &[u8], base: u32) -> Option<u32>
     }
     let mut value: u32 = 0;
     for b in s {
-        let d = digit_of(*b);
-        if base <= d {
-            return None;
-        }
+        let d = to_digit(*b, base)?;
         value = value.checked_mul(base)?.checked_add(d)?;
     }
     Some(value)

@@ -7,3 +7,4 @@ pub mod Handed
 pub mod Matching
 pub mod Samples
 pub mod Counts
+pub mod Said

@@ -1,5 +1,5 @@
--- The numbers of the calls and of the kinds of fields, by which a line's answer and a row of the table read as their definitions give them. No two calls have
--- one number, and none has that of a line that makes no call, so the answer is determined.
+-- The numbers of the calls and of the kinds of fields, by which a line's answer and a row of the table read as their definitions give them. No two answers
+-- read alike (`line_told`), so the answer is determined.
 use Rattle.std.specs.Prelude.{ℕ, ◌+◌, map}
 use Rattle.sheet.specs.declared.calls.QueueCall.{QueueCall}
 use Rattle.sheet.specs.declared.calls.QueueCall.TheVariants as queue
