@@ -1,7 +1,6 @@
 pub mod Kept
 pub mod Guessing
 pub mod Loops
-pub mod Answers
 pub mod Served
 pub mod Lines
 pub mod Reading

@@ -5,19 +5,18 @@ use native.Mathlib.Nat.{zero-add}
 use native.Mathlib.Numerals.{add-one}
 use mathlib.Core.Path.{◌≡◌, refl, sym, ap, ap₂, ◌∙◌}
 use mathlib.Core.List.{List, [], ◌∷◌, ◌++◌}
-use lib.ListN.{length, get_or, set, take, drop, length-drop, length-set}
-use Rattle.std.proofs.lemmas.List.{get_or-drop, length-take-le, append_assoc}
+use lib.ListN.{length, get_or, set, take, drop, length-append, length-drop, length-set}
+use Rattle.std.proofs.lemmas.List.{get_or-drop, append_assoc}
 use lib.Seq.{take-suc, drop-cons, set-append_seam}
-use Rattle.console.specs.declared.Console.{Console}
 use Rattle.input_queue.specs.declared.QueueState.{QueueState}
 use Rattle.sync_layer.specs.Lists.{write_row}
 use Rattle.sync_layer.specs.Seats.{seat_at}
-use Rattle.sync_layer.specs.Slots.{slot_of, slot_at, state_in}
+use Rattle.sync_layer.specs.Slots.{slot_of, slot_at}
 use Rattle.sync_layer.specs.Whole.{SlotRoom}
 use Rattle.desk.specs.declared.DeskState.{DeskState}
 use Rattle.desk.specs.Lists.{least_of, row_of}
 use Rattle.desk.specs.Desk.{desk_of}
-use Rattle.desk.specs.Settled.{shown_word, shown_words, shown_state}
+use Rattle.desk.specs.Settled.{shown_word, shown_words}
 use Rattle.desk.specs.Whole.{Ready}
 
 -- the least so far
@@ -75,9 +74,6 @@ module _ (n : ℕ) (g : ℕ → ℕ) (l₀ : List ℕ) where
 pub slot_word : (limit : ℕ) (l : List ℕ) (f at i : ℕ) → at ≡ slot_of limit f → get_or l (at + 4 + i) 0 ≡ slot_at limit l f (4 + i)
 slot_word limit l f at i e = let k : at + 4 + i ≡ slot_of limit f + (4 + i) = omega arith in rw k
 
-pub slot_reach : (y : DeskState) (l : List ℕ) (at i : ℕ) → Ready y → SlotRoom l → at ≤ y.limit * 16 → i < y.seats → at + 4 + i < length l
-slot_reach y l at i r s e p = omega (arith, r.few, r.near)
-
 -- two rows of the same values
 pub row_eq : (n : ℕ) (g h : ℕ → ℕ) → ((k : ℕ) → k < n → g k ≡ h k) → row_of n g ≡ row_of n h
 unfolding row_of
@@ -91,29 +87,21 @@ write_eq zero l base g h e = refl
 write_eq (suc n) l base g h e =
     ap₂ (λ (x : List ℕ) (w : ℕ). set x (base + n) w) (write_eq n l base g h (λ k p. e k (omega arith))) (e n (omega arith))
 
+pub row_long : (n : ℕ) (g : ℕ → ℕ) → length (row_of n g) ≡ n
+unfolding row_of
+row_long zero g = refl
+row_long (suc n) g = length-append (row_of n g) (g n ∷ []) ∙ omega (arith, row_long n g)
+
 -- a row that is copied to the front
-copied : (n : ℕ) (x o : List ℕ) → n ≤ length x → n ≤ length o → take n x ++ drop n o ≡ write_row n o 0 (λ s. get_or x s 0)
-unfolding write_row
-copied zero x o p q = refl
-copied (suc n) x o p q =
-    let e : length (take n x) ≡ n = length-take-le n x (omega arith) in
-    let k : n < length o = omega arith in
-    let h : n < length x = omega arith in
-    let seam : set (take n x ++ (get_or o n 0 ∷ drop (suc n) o)) n (get_or x n 0) ≡ take n x ++ (get_or x n 0 ∷ drop (suc n) o)
-        = rw e at (set-append_seam (take n x) (get_or o n 0) (drop (suc n) o) (get_or x n 0)) in
-    rw (← copied n x o (omega arith) (omega arith), take-suc x n 0 h, drop-cons o n 0 k, zero-add, append_assoc) (sym seam)
+row_copied : (n : ℕ) (g : ℕ → ℕ) (o : List ℕ) → n ≤ length o → row_of n g ++ drop n o ≡ write_row n o 0 g
+unfolding row_of write_row
+row_copied zero g o p = refl
+row_copied (suc n) g o p =
+    let seam : set (row_of n g ++ (get_or o n 0 ∷ drop (suc n) o)) n (g n) ≡ row_of n g ++ (g n ∷ drop (suc n) o)
+    = rw (row_long n g) at (set-append_seam (row_of n g) (get_or o n 0) (drop (suc n) o) (g n)) in
+    rw (← row_copied n g o (omega arith), drop-cons o n 0 p, zero-add, append_assoc) (sym seam)
 
--- the words of a frame's slot, all written
-pub words_copied : (y : DeskState) (m : List ℕ) (f at : ℕ) (o w : List ℕ) → Ready y → SlotRoom m → at ≤ y.limit * 16 → y.seats ≤ length o → at ≡ slot_of y.limit f
-    → w ≡ take (at + 4 + y.seats - (at + 4)) (drop (at + 4) m) → w ++ drop y.seats o ≡ write_row y.seats o 0 (shown_word (desk_of y [] [] m) f)
-words_copied y m f at o w r s b q e g =
-    let k : at + 4 + y.seats - (at + 4) ≡ y.seats = omega arith in
-    let h : y.seats ≤ length (drop (at + 4) m) = simp length-drop (omega (arith, r.few, r.near)) in
-    rw (g, k)
-    (copied y.seats (drop (at + 4) m) o h q
-    ∙ write_eq y.seats o 0 (λ s. get_or (drop (at + 4) m) s 0) (shown_word (desk_of y [] [] m) f) (λ s p. get_or-drop (at + 4) m s 0 ∙ slot_word y.limit m f at s e))
-
-pub ruleset writing = (written_start, written_turn, written_end, slot_reach, words_copied)
+pub ruleset writing = (written_start, written_turn, written_end)
 
 -- a part of a list is a row
 pub part_row : (n : ℕ) (l : List ℕ) (a : ℕ) → a + n ≤ length l → take n (drop a l) ≡ row_of n (λ k. get_or l (a + k) 0)
@@ -123,17 +111,22 @@ part_row (suc n) l a h =
     take-suc (drop a l) n 0 (simp length-drop (omega arith))
     ∙ ap₂ (λ (x : List ℕ) (w : ℕ). x ++ (w ∷ [])) (part_row n l a (omega arith)) (get_or-drop a l n 0)
 
--- the slot's words as the code lends them to the console
-module _ (y : DeskState) (l : List ℕ) (f at : ℕ) (r : Ready y) (room : SlotRoom l) (e : at ≡ slot_of y.limit f) (w : at ≤ y.limit * 16) where
-  pub shown_part : take (at + 4 + y.seats - (at + 4)) (drop (at + 4) l) ≡ shown_words (desk_of y [] [] l) f
-  shown_part =
+-- a frame's words, as the code finds them in its slot
+module _ (y : DeskState) (l : List ℕ) (f : ℕ) where
+  pub words_part : (at : ℕ) → Ready y → SlotRoom l → at ≡ slot_of y.limit f → at ≤ y.limit * 16
+      → take (at + 4 + y.seats - (at + 4)) (drop (at + 4) l) ≡ shown_words (desk_of y [] [] l) f
+  words_part at r room e w =
       let k : at + 4 + y.seats - (at + 4) ≡ y.seats = omega arith in
       rw k
       (part_row y.seats l (at + 4) (omega (arith, r.few, r.near))
       ∙ row_eq y.seats (λ i. get_or l (at + 4 + i) 0) (λ i. slot_at y.limit l f (4 + i)) (λ i p. slot_word y.limit l f at i e))
 
-  module _ (step : Console → List ℕ → Console) (k c : Console) (a : k ≡ state_in y.limit l f) where
-    pub shown_step : c ≡ step k (take (at + 4 + y.seats - (at + 4)) (drop (at + 4) l)) → c ≡ shown_state step (desk_of y [] [] l) f
-    shown_step b = b ∙ ap₂ step a shown_part
+  pub words_long : (w : List ℕ) → w ≡ shown_words (desk_of y [] [] l) f → length w ≡ y.seats
+  words_long w e = ap length e ∙ row_long y.seats (shown_word (desk_of y [] [] l) f)
 
-pub ruleset stepping = (shown_step)
+  pub words_copied : (o w : List ℕ) → y.seats ≤ length o → w ≡ shown_words (desk_of y [] [] l) f
+      → w ++ drop (length w) o ≡ write_row y.seats o 0 (shown_word (desk_of y [] [] l) f)
+  words_copied o w p e =
+      rw (words_long w e, e) (row_copied y.seats (shown_word (desk_of y [] [] l) f) o p)
+
+pub ruleset words = (words_part, words_long, words_copied)

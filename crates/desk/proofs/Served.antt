@@ -15,18 +15,18 @@ use Rattle.console.specs.declared.Console.{Console}
 use Rattle.console.specs.Step.{step_of}
 use Rattle.input_queue.specs.declared.QueueState.{QueueState}
 use Rattle.input_queue.specs.declared.Asked.{Asked}
-use Rattle.input_queue.specs.Queue.{asking, asked, answer, confirms, reset, discard}
+use Rattle.input_queue.specs.Queue.{asking, asked, answer, confirms, reset}
 use Rattle.input_queue.specs.Ring.{word_at}
 use Rattle.sync_layer.specs.Lists.{write_row, lowest_of}
 use Rattle.sync_layer.specs.Seats.{ring_of, seat_at, set_seat, map_seats}
-use Rattle.sync_layer.specs.Slots.{slot_of, state_in, save_slot}
+use Rattle.sync_layer.specs.Slots.{slot_of, save_slot}
 use Rattle.sync_layer.specs.Calls.{status_of}
 use Rattle.sync_layer.specs.Whole.{WordRoom, Places}
 use Rattle.sync_layer.proofs.Rows.{row_long, row_same}
 use Rattle.sync_layer.proofs.Seating.{seat_long, map_past}
 use Rattle.desk.specs.declared.DeskState.{DeskState}
 use Rattle.desk.specs.declared.Report.{Report}
-use Rattle.desk.specs.Lists.{least_of, row_of}
+use Rattle.desk.specs.Lists.{row_of}
 use Rattle.desk.specs.Desk.{Desk, desk_of, known_of, mismatch_of, load, reset_all, discard_all, confirm, advance_answer, one_frame, replay, corrected, settle, advance}
 use Rattle.desk.specs.Calls as calls
 use Rattle.desk.specs.Whole.{Seated, Whole}
@@ -162,10 +162,6 @@ pub ruleset frames = (frame_room, frame_from, frame_end, frame_desk, frame_next)
 
 -- Replay: one frame and then the rest -------------------------------------------------------------------------------------------
 
-pub replay_none : (y : DeskState) (l w m : List ℕ) (p : ℕ → ℕ) (n : ℕ) → n ≤ y.current → desk_of y l w m ≡ replay step_of p (n - y.current) (desk_of y l w m)
-unfolding replay
-replay_none y l w m p n h = let e : n - y.current ≡ 0 = omega arith in rw e
-
 frame_predictor : (d : Desk) → (calls.frame_on d).state.predictor ≡ d.state.predictor
 unfolding one_frame
 frame_predictor d = refl
@@ -206,16 +202,7 @@ module _ (y e : DeskState) (l w m l' m' : List ℕ) (n : ℕ) (a : desk_of e l' 
 
 pub ruleset plays = (play_whole, play_last, play_rest)
 
-pub ruleset replays = (replay_none)
-
 -- Going back --------------------------------------------------------------------------------------------------------------------
-
-pub load_state : (y : DeskState) (m : List ℕ) (f : ℕ) (k : Console) → k ≡ state_in y.limit m f
-    → record { seats = y.seats; limit = y.limit; predictor = y.predictor; current = f; console = k } ≡ (load (desk_of y [] [] m) f).state
-unfolding load
-load_state y m f k e = rw e
-
-pub ruleset loads = (load_state)
 
 pub correct_none : (y : DeskState) (l w m : List ℕ) (p : ℕ → ℕ) (n : ℕ) → n ≡ lowest_of y.seats (λ s. (seat_at l s).first_incorrect_count) → n ≡ 0 → desk_of y l w m ≡ corrected step_of p (desk_of y l w m)
 unfolding corrected
@@ -257,27 +244,6 @@ module _ (y : DeskState) (l w m : List ℕ) (n : ℕ) (h : Whole (desk_of y l w 
       ∙ rw (← e) (simp (ne_eqb _ _ z))
 
 pub ruleset corrects = (correct_none, correct_whole, correct_upto, correct_early, correct_desk)
-
--- Confirm -----------------------------------------------------------------------------------------------------------------------
-
-module _ (y : DeskState) (l : List ℕ) (k : ℕ) (e : k ≡ least_of (y.seats - 1) (λ s. (seat_at l s).last_added_count)) where
-  pub confirm_unknown : k ≡ 0 → desk_of y l [] [] ≡ confirm (desk_of y l [] [])
-  unfolding confirm
-  confirm_unknown a = rw (← e) (simp (eq-eqb _ _ a))
-
-  module _ (a : k ≡ 0 → ⊥) (f : ℕ) (b : f ≡ min (k - 1) y.current) where
-    pub confirm_first : f ≡ 0 → desk_of y l [] [] ≡ confirm (desk_of y l [] [])
-    unfolding confirm
-    confirm_first c = rw (← e, ← b) (simp (ne_eqb _ _ a, eq-eqb _ _ c))
-
-    pub confirm_some : (l' : List ℕ) → (f ≡ 0 → ⊥) → l' ≡ map_seats y.seats (λ i q. discard q (f - 1)) l → desk_of y l' [] [] ≡ confirm (desk_of y l [] [])
-    unfolding confirm discard_all
-    confirm_some l' c d = rw (← e, ← b, d) (simp (ne_eqb _ _ a, ne_eqb _ _ c))
-
-    pub confirm_early : Seated y l → f - 1 < 4294967295
-    confirm_early h = omega (arith, h.ready.early)
-
-pub ruleset confirming = (confirm_unknown, confirm_first, confirm_some, confirm_early)
 
 -- the desk's own numbers with another console
 abbrev with_console : DeskState → Console → DeskState

@@ -21,6 +21,7 @@ use sync_layer::{
 };
 
 // Asks every seat for the current frame. The words go into the frame's slot, from a place on.
+#[tactic(auto, using(crate::proofs::Served::servings))]
 fn serve_seats(seats: &mut [u32], words: &[u32], slots: &mut [u32], desk: DeskState, from: usize)
     requires { Seated desk seats.old × WordRoom words.now × (from + max_seats ≤ length slots.old) × (from ≤ max_limit * slot_words + served_from) }
     ensures { (seats.new ≡ map_seats desk.seats (λ i q. asked (predicted desk.predictor) (word_at words.now (ring_of i)) q desk.current) seats.old)
@@ -71,6 +72,7 @@ fn next_frame(slots: &[u32], desk: DeskState, from: usize) -> DeskState
 }
 
 // One frame: save, request all seats, step, current + 1.
+#[tactic(auto, using(crate::proofs::Served::frames))]
 fn one_frame(seats: &mut [u32], words: &[u32], slots: &mut [u32], desk: DeskState) -> DeskState
     requires { Whole (m.desk_of desk seats.old words.now slots.old) }
     ensures { m.desk_of result seats.new words.now slots.new ≡ calls.frame_on (m.desk_of desk seats.old words.now slots.old) }
@@ -82,6 +84,7 @@ fn one_frame(seats: &mut [u32], words: &[u32], slots: &mut [u32], desk: DeskStat
 
 // At least one frame, to the end: one frame and then the rest. Every replayed frame is played from
 // here, so that the frame's code has one caller and is compiled into it.
+#[tactic(auto, using(crate::proofs::Served::plays))]
 fn play(seats: &mut [u32], words: &[u32], slots: &mut [u32], desk: DeskState, end: u32) -> DeskState
     requires { Whole (m.desk_of desk seats.old words.now slots.old) × (desk.current < end) × (end ≤ last_count) }
     ensures { m.desk_of result seats.new words.now slots.new
@@ -97,6 +100,7 @@ fn play(seats: &mut [u32], words: &[u32], slots: &mut [u32], desk: DeskState, en
 }
 
 // To the end: no frame where the desk is there, else one frame and then the rest of the replay.
+#[tactic(auto, unfolding(crate::specs::Desk::replay))]
 fn replay(
     seats: &mut [u32],
     words: &[u32],
@@ -115,6 +119,7 @@ fn replay(
 }
 
 // The desk at a saved frame.
+#[tactic(auto, unfolding(crate::specs::Desk::load))]
 fn load(slots: &[u32], desk: DeskState, frame: u32) -> DeskState
     requires { Ready desk × SlotRoom slots.now }
     ensures { result ≡ (m.load (m.desk_of desk [] [] slots.now) frame).state }
@@ -127,6 +132,7 @@ fn load(slots: &[u32], desk: DeskState, frame: u32) -> DeskState
 }
 
 // Where a mismatch stands: load the lowest, reset all, and replay to the current frame.
+#[tactic(auto, using(crate::proofs::Served::corrects))]
 pub fn correct(
     seats: &mut [u32],
     words: &[u32],
@@ -147,6 +153,7 @@ pub fn correct(
 }
 
 // Confirms K: the queues let go of what is before it.
+#[tactic(auto, unfolding(crate::specs::Desk::confirm, crate::specs::Desk::discard_all))]
 pub fn confirm(seats: &mut [u32], desk: DeskState)
     requires { Seated desk seats.old }
     ensures { m.desk_of desk seats.new [] [] ≡ m.confirm (m.desk_of desk seats.old [] []) }
@@ -164,6 +171,7 @@ pub fn confirm(seats: &mut [u32], desk: DeskState)
 
 // Asks every seat for the current frame, as `serve_seats` does, and lends back each word and how it
 // stands. While a seat is asked is the one time that its word and standing are at hand.
+#[tactic(auto, using(crate::proofs::Served::servings, crate::proofs::Loops::writing))]
 fn serve_row(
     seats: &mut [u32],
     words: &[u32],
@@ -196,6 +204,7 @@ fn serve_row(
 }
 
 // One frame, with the words served and their standings lent back.
+#[tactic(auto, using(crate::proofs::Served::frames))]
 pub fn serve_frame(
     seats: &mut [u32],
     words: &[u32],

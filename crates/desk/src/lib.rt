@@ -23,7 +23,7 @@ ghost use Rattle.desk.specs.Whole.{Ready, Seated, Whole};
 
 use console::Console;
 use frame_info::refusal::Refusal;
-use frame_info::{LAST_COUNT, NULL_FRAME, count_of, frame_of};
+use frame_info::{LAST_COUNT, count_of, frame_of};
 use input_queue::INPUT_QUEUE_LENGTH;
 pub use showing::{known, log, show};
 use sync_layer::{MAX_SEATS, lowest_wrong, seat_at, set_seat};
@@ -63,6 +63,7 @@ pub struct Settled {
 
 // A fresh desk, one delay for each seat: 1 where anything is out of range, and then a desk of one
 // seat with limit, delay and predictor 0. The words need not be cleared.
+#[tactic(auto, unfolding(crate::specs::Calls::setup_answer, crate::specs::Desk::setup_state, crate::specs::Desk::setup_of, sync_layer::specs::Calls::opened))]
 pub fn setup(
     seats: &mut [u32],
     slots: &mut [u32],
@@ -89,6 +90,7 @@ pub fn setup(
 }
 
 // Why a word is refused, if it is.
+#[tactic(auto, unfolding(crate::specs::Desk::take_answer, input_queue::specs::Calls::add_refusal))]
 fn take_refusal(seats: &[u32], desk: DeskState, seat: u32, count: u32) -> Result<(), Refusal>
     requires { Seated desk seats.now }
     ensures { number_in result ≡ m.take_answer (m.desk_of desk seats.now [] []) seat count }
@@ -111,6 +113,7 @@ fn take_refusal(seats: &[u32], desk: DeskState, seat: u32, count: u32) -> Result
 
 // Stores a seat's word for a frame: 2, 7, 6, 3, 4. The first frame of a seat is 0. Answers the
 // place.
+#[tactic(auto, using(frame_info::proofs::Refusals::number_some), unfolding(crate::specs::Desk::take_answer, crate::specs::Desk::take, crate::specs::Desk::taken, crate::specs::Calls::take_says))]
 pub fn take(
     seats: &mut [u32],
     words: &mut [u32],
@@ -136,21 +139,20 @@ fn report_at(lowest: u32, current: u32) -> Report
     requires { lowest ≤ current }
     ensures { result ≡ calls.report_at lowest current }
 {
-    if lowest == 0 {
-        return Report {
-            frame: NULL_FRAME,
-            count: 0,
-        };
-    }
     Report {
         frame: frame_of(lowest),
-        count: current - (lowest - 1),
+        count: if lowest == 0 {
+            0
+        } else {
+            current - (lowest - 1)
+        },
     }
 }
 
 // Corrects what was guessed wrong: where a mismatch stands, loads the lowest, resets all and replays
 // to the current frame, each frame saved again with the words served. Then lets go of what can no
 // longer change.
+#[tactic(auto, using(crate::proofs::Served::settles))]
 pub fn settle(seats: &mut [u32], words: &[u32], slots: &mut [u32], desk: DeskState) -> Settled
     requires { Whole (m.desk_of desk seats.old words.now slots.old) }
     ensures { (result.report ≡ calls.report_of (m.desk_of desk seats.old words.now slots.old))
@@ -172,6 +174,7 @@ pub fn settle(seats: &mut [u32], words: &[u32], slots: &mut [u32], desk: DeskSta
 }
 
 // Why an advance is refused, if it is.
+#[tactic(auto, unfolding(crate::specs::Desk::advance_answer))]
 fn advance_refusal(seats: &[u32], desk: DeskState) -> Result<(), Refusal>
     requires { Seated desk seats.now }
     ensures { number_in result ≡ m.advance_answer (m.desk_of desk seats.now [] []) }
@@ -180,13 +183,14 @@ fn advance_refusal(seats: &[u32], desk: DeskState) -> Result<(), Refusal>
     if next >= LAST_COUNT {
         return Err(Refusal::FrameTooHigh);
     }
-    if desk.limit + showing::known_count(seats, desk) < next {
+    if next.saturating_sub(showing::known_count(seats, desk)) > desk.limit {
         return Err(Refusal::TooFarAhead);
     }
     Ok(())
 }
 
 // An advance into lists that have a place for every seat, for callers who have tested that.
+#[tactic(auto, using(crate::proofs::Served::advancing))]
 pub fn advance_into(
     seats: &mut [u32],
     words: &[u32],

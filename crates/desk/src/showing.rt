@@ -1,5 +1,5 @@
 // What is known, what is settled, and what a settled frame shows.
-ghost use Rattle.std.specs.Prelude.{◌≡◌, [], ◌+◌, ◌-◌, ◌*◌, ◌≤◌, ◌<◌, length};
+ghost use Rattle.std.specs.Prelude.{◌≡◌, [], ◌≤◌, ◌<◌, length};
 ghost use Rattle.frame_info.specs.Frame.{last_count};
 ghost use Rattle.frame_info.specs.Refusal.{number_in};
 ghost use Rattle.console.specs.Step.{step_of};
@@ -19,6 +19,7 @@ use frame_info::{count_of, frame_of};
 use sync_layer::{MAX_SEATS, SERVED_FROM, lowest_wrong, seat_at, slot_of, state_in};
 
 // K as a count: the least newest place over the seats.
+#[tactic(auto, using(crate::proofs::Loops::leasts))]
 pub fn known_count(seats: &[u32], desk: DeskState) -> u32
     requires { Seated desk seats.now }
     ensures { result ≡ m.known_of (m.desk_of desk seats.now [] []) }
@@ -48,7 +49,7 @@ fn right_up_to(seats: &[u32], desk: DeskState, frame: u32) -> bool
     lowest == 0 || frame + 1 < lowest
 }
 
-#[tactic(auto, using(crate::proofs::Answers::settling), unfolding(crate::specs::Settled::is_settled))]
+#[tactic(auto, unfolding(crate::specs::Settled::is_settled))]
 fn is_settled(seats: &[u32], desk: DeskState, frame: u32) -> bool
     requires { Seated desk seats.now }
     ensures { result ≡ settled.is_settled (m.desk_of desk seats.now [] []) frame }
@@ -60,6 +61,7 @@ fn is_settled(seats: &[u32], desk: DeskState, frame: u32) -> bool
 }
 
 // Why a frame is not shown, if it is not.
+#[tactic(auto, unfolding(crate::specs::Calls::show_answer))]
 fn show_refusal(seats: &[u32], desk: DeskState, count: u32) -> Result<(), Refusal>
     requires { Seated desk seats.now }
     ensures { number_in result ≡ calls.show_answer (m.desk_of desk seats.now [] []) count }
@@ -73,14 +75,23 @@ fn show_refusal(seats: &[u32], desk: DeskState, count: u32) -> Result<(), Refusa
     Ok(())
 }
 
-// The words of a frame's slot.
+// The words of a frame's slot, one for each seat.
+#[tactic(auto, using(crate::proofs::Loops::words))]
+pub fn words_in(slots: &[u32], desk: DeskState, frame: u32) -> &[u32]
+    requires { Ready desk × SlotRoom slots.now }
+    ensures { (result.now ≡ settled.shown_words (m.desk_of desk [] [] slots.now) frame) × (length result.now ≡ desk.seats) }
+{
+    let from = slot_of(desk.limit, frame) + SERVED_FROM;
+    &slots[from..from + desk.seats as usize]
+}
+
+#[tactic(auto, using(crate::proofs::Loops::words))]
 fn put_words(slots: &[u32], desk: DeskState, frame: u32, out: &mut [u32])
     requires { Ready desk × SlotRoom slots.now × (desk.seats ≤ length out.old) }
     ensures { out.new ≡ write_row desk.seats out.old 0 (settled.shown_word (m.desk_of desk [] [] slots.now) frame) }
 {
-    let n = desk.seats as usize;
-    let from = slot_of(desk.limit, frame) + SERVED_FROM;
-    out[..n].copy_from_slice(&slots[from..from + n]);
+    let row = words_in(slots, desk, frame);
+    out[..row.len()].copy_from_slice(row);
 }
 
 // The state of a frame's slot, stepped once with its words.
@@ -88,13 +99,12 @@ pub fn shown_state(slots: &[u32], desk: DeskState, frame: u32) -> Console
     requires { Ready desk × SlotRoom slots.now }
     ensures { result ≡ settled.shown_state step_of (m.desk_of desk [] [] slots.now) frame }
 {
-    let from = slot_of(desk.limit, frame) + SERVED_FROM;
-    let end = from + desk.seats as usize;
     let state = state_in(slots, desk.limit, frame);
-    state.step(&slots[from..end])
+    state.step(words_in(slots, desk, frame))
 }
 
 // A settled frame's words and the console after it: 7, 21. What is lent past the seats stays as it was.
+#[tactic(auto, using(frame_info::proofs::Refusals::number_some), unfolding(crate::specs::Calls::show_answer, crate::specs::Calls::show_says, crate::specs::Calls::show_words, crate::specs::Settled::is_settled))]
 pub fn show(
     slots: &[u32],
     seats: &[u32],
@@ -113,6 +123,7 @@ pub fn show(
 }
 
 // Why a frame is not logged into so many bytes, if it is not.
+#[tactic(auto, using(frame_info::proofs::Refusals::number_some), unfolding(crate::specs::Calls::log_answer))]
 fn log_refusal(seats: &[u32], desk: DeskState, count: u32, room: usize) -> Result<(), Refusal>
     requires { Seated desk seats.now }
     ensures { number_in result ≡ calls.log_answer (m.desk_of desk seats.now [] []) count room }
@@ -125,6 +136,7 @@ fn log_refusal(seats: &[u32], desk: DeskState, count: u32, room: usize) -> Resul
 }
 
 // A settled frame's log line: 7, 21, 20. Answers how many bytes it takes; those past it stay.
+#[tactic(auto, using(frame_info::proofs::Refusals::number_some), unfolding(crate::specs::Calls::log_answer, crate::specs::Calls::show_answer, crate::specs::Calls::log_says, crate::specs::Calls::log_bytes, crate::specs::Settled::is_settled))]
 pub fn log(
     slots: &[u32],
     seats: &[u32],

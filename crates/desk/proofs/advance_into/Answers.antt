@@ -1,7 +1,6 @@
 use Rattle.desk.proofs.Served.{advancing, advance_done, advance-report, advance_desk, advance-served, advance-statuses}
 use borrow.Author.Rules.{rules}
 use mathlib.Core.Path.{◌≡◌, refl}
-use Rattle.std.proofs.lemmas.Result.{err_from_is_err_and}
 use Rattle.desk.proofs.advance_into.Goals as goal
 
 pub serve_frame-next-requires : goal.serve_frame-next-requires
@@ -20,6 +19,3 @@ returns c =
       advance-served _ _ _ _ _ n z h _ _ _ e _ _ f.1,
       advance-statuses _ _ _ _ _ n z h _ _ _ e _ _ f.2,
     )
-
-pub returns-in_err-advance_refusal : goal.returns-in_err-advance_refusal
-returns-in_err-advance_refusal c = let p = err_from_is_err_and c.from_residual.result c.from_residual.ensures.1 in rw (p.1, p.2) (search (rules, advancing))

@@ -2,9 +2,6 @@ use Rattle.desk.proofs.Served.{corrects}
 use borrow.Author.Rules.{rules}
 use Rattle.desk.proofs.frames.correct.Goals as goal
 
-pub returns-then-lowest-eq0 : goal.returns-then-lowest-eq0
-returns-then-lowest-eq0 c = search (rules, corrects)
-
 pub replay-requires : goal.replay-requires
 replay-requires c = search (rules, corrects)
 

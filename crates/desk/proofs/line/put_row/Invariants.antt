@@ -1,7 +1,5 @@
-use Prim.Native.Nat.{◌+◌}
-use lib.ListN.{get_or}
 use Rattle.desk.proofs.Lines.{Spaced}
 use Rattle.desk.proofs.line.put_row.Given as goal
 
-abbrev pub invariant-loop-i : goal.invariant-loop-i
-invariant-loop-i l = Spaced l.n l.at (λ s. get_or l.slots (l.from + s) 0) l.initial.out l.out l.next l.i
+abbrev pub invariant-loop-word : goal.invariant-loop-word
+invariant-loop-word l = Spaced l.at l.initial.out l.row l.out l.next l.word-index

@@ -1,6 +1,0 @@
-use Rattle.desk.proofs.Served.{frames}
-use borrow.Author.Rules.{rules}
-use Rattle.desk.proofs.frames.serve_frame.Goals as goal
-
-pub returns : goal.returns
-returns c = search (rules, frames)
