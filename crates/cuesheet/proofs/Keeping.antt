@@ -4,8 +4,7 @@ use mathlib.Core.Path.{◌≡◌}
 use mathlib.Core.List.{List}
 use lib.ListN.{length}
 use Rattle.cues_world.specs.declared.World.{World}
-use Rattle.cues_world.specs.Force.{Whole, start}
-use Rattle.cues_world.proofs.Keeping.{start_whole}
+use Rattle.cues_world.specs.Force.{Whole}
 use Rattle.cuesheet.specs.declared.reading.Reader.{Reader}
 
 -- ---- between two lines there is room for an answer, and every lent list has the length that it had
@@ -18,6 +17,3 @@ pub record Fed (bytes₀ line₀ args₀ out₀ bytes line args out : List ℕ) 
   pub same_lines : length line ≡ length line₀
   pub same_fields : length args ≡ length args₀
   pub same_outs : length out ≡ length out₀
-
-pub start_kept : (w : World) → w ≡ start → Whole w
-start_kept w e = rw e start_whole

@@ -58,6 +58,7 @@ fn tell_end(files: &impl Files, end: Result<(), Failed>) -> io::Result<()> {
     }
 }
 
+#[tactic(auto, using(cues_world::proofs::Keeping::start_whole))]
 fn main(rt: HostRuntime) {
     // the bytes that are read at once, the longest line that is read and one byte, its fields, and the
     // answers that wait to be written
