@@ -1,7 +1,9 @@
 // The seats' queues in a lent list of numbers: seat i's eight from i * SEAT_WORDS on. And what is
 // done to every seat in turn.
+// Kept: numbers and no list of structs, since C lends the list.
 ghost use Rattle.std.specs.Prelude.{◌≡◌, ◌+◌, ◌-◌, ◌*◌, ◌≤◌, ◌<◌, length};
 ghost use Rattle.input_queue.specs.Queue.{reset, discard};
+ghost use Rattle.input_queue.specs.declared.QueueState.{QueueState};
 ghost use Rattle.sync_layer.specs.Lists.{lower, lowest_of};
 ghost use Rattle.sync_layer.specs.Seats.{seat_words, seat_at, set_seat, map_seats};
 ghost use Rattle.sync_layer.specs.Calls.{fresh_seats};
@@ -54,26 +56,29 @@ pub fn fresh_seats(seats: &mut [u32], delays: &[u32])
     }
 }
 
-#[tactic(auto, using(crate::proofs::Seating::map_past), unfolding(crate::specs::Seats::map_seats))]
+// Every seat's queue changed in turn.
+fn change_seats<F: Fn(QueueState) -> QueueState>(seats: &mut [u32], n: usize, change: F)
+    requires { (n * seat_words ≤ length seats.old) × ((s : _) → F.pre change s) }
+    ensures { (h : QueueState → QueueState) → ((s r : _) → F.post change s r → r ≡ h s) → seats.new ≡ map_seats n (λ i q. h q) seats.old }
+{
+    for i in 0..n {
+        let s = seat_at(seats, i);
+        set_seat(seats, i, change(s));
+    }
+}
+
 pub fn reset_seats(seats: &mut [u32], n: usize)
     requires { n * seat_words ≤ length seats.old }
     ensures { seats.new ≡ map_seats n (λ i q. reset q) seats.old }
 {
-    for i in 0..n {
-        let s = seat_at(seats, i);
-        set_seat(seats, i, input_queue::reset(s));
-    }
+    change_seats(seats, n, |s| input_queue::reset(s));
 }
 
-#[tactic(auto, using(crate::proofs::Seating::map_past), unfolding(crate::specs::Seats::map_seats))]
 pub fn discard_seats(seats: &mut [u32], n: usize, frame: u32)
     requires { n * seat_words ≤ length seats.old }
     ensures { seats.new ≡ map_seats n (λ i q. discard q frame) seats.old }
 {
-    for i in 0..n {
-        let s = seat_at(seats, i);
-        set_seat(seats, i, input_queue::discard(s, frame));
-    }
+    change_seats(seats, n, |s| input_queue::discard(s, frame));
 }
 
 fn lower_of(a: u32, b: u32) -> u32

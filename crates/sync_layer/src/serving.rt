@@ -17,9 +17,9 @@ use frame_info::refusal::Refusal;
 use frame_info::{BLANK, NULL_FRAME, count_of, frame_of};
 use input_queue::{Asked, INPUT_QUEUE_LENGTH};
 
-// Kept: its two lists go side by side, as C lends them. In a struct of both, an `ensures` would name
-// each as list.entry.disconnected.now, which is no plainer.
 // Whether a seat is gone, with its last frame below a frame.
+// Kept: a status list goes as two lists, as C lends it. Of a struct of both, each `ensures` would say
+// list.entry.disconnected.now and list.entry.last_frame.now, which is no plainer.
 fn gone_below(disconnected: &[bool], last_frame: &[i32], seat: usize, frame: u32) -> bool
     requires { Listed disconnected.now last_frame.now seat }
     ensures { result ≡ calls.gone_below frame disconnected.now last_frame.now seat }
@@ -195,6 +195,7 @@ pub fn synchronized_inputs_into(
 
 // The word of every seat for the current frame, and its status: 2, and then the lowest seat that
 // refuses decides.
+// Kept: two public names of one request. This one's arrays have room, so that it requires none.
 pub fn synchronized_inputs(
     seats: &mut [u32],
     words: &[u32],

@@ -1,6 +1,8 @@
 // The saved slots in a lent list of numbers: limit + 1 slots, frame f in slot f mod that number,
 // slot i's numbers from i * SLOT_WORDS on. These are the frame as a count, head, kind, seal, and
 // from 4 on the words that the desk served.
+// Kept: numbers beside their limit and no struct of both, since C lends the list and the layer holds
+// the limit.
 ghost use Rattle.std.specs.Prelude.{◌≡◌, ◌+◌, ◌-◌, ◌*◌, ◌≤◌, ◌<◌, suc};
 ghost use Rattle.frame_info.specs.Frame.{last_count};
 ghost use Rattle.sync_layer.specs.Slots.{max_limit, slot_words, slot_of, slot_at, state_in, save_slot, clear_slots, within, highest_in};
