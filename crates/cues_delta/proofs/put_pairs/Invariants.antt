@@ -1,6 +1,6 @@
 use lib.ListN.{length}
 use mathlib.Core.Path.{◌≡◌}
-use Prim.Native.Nat.{◌+◌, ◌*◌, ◌≤◌}
+use Prim.Native.Nat.{◌+◌, ◌*◌}
 use Rattle.cues_delta.proofs.put_pairs.Given as goal
 
 abbrev pub invariant-loop-byte : goal.invariant-loop-byte
