@@ -21,6 +21,8 @@ use sync_layer::{
 };
 
 // Asks every seat for the current frame. The words go into the frame's slot, from a place on.
+// Kept: `serve_row` does this too and lends back two numbers a seat. One loop for both, with a
+// closure or a switch for these, is no plainer: its promise would have to say what they did.
 #[tactic(auto, using(crate::proofs::Served::servings))]
 fn serve_seats(seats: &mut [u32], words: &[u32], slots: &mut [u32], desk: DeskState, from: usize)
     requires { Seated desk seats.old × WordRoom words.now × (from + max_seats ≤ length slots.old) × (from ≤ max_limit * slot_words + served_from) }
@@ -84,6 +86,7 @@ fn one_frame(seats: &mut [u32], words: &[u32], slots: &mut [u32], desk: DeskStat
 
 // At least one frame, to the end: one frame and then the rest. Every replayed frame is played from
 // here, so that the frame's code has one caller and is compiled into it.
+// Kept: a replay calls itself and is no loop, as document 01 has it and `specs::Desk::replay` says it.
 #[tactic(auto, using(crate::proofs::Served::plays))]
 fn play(seats: &mut [u32], words: &[u32], slots: &mut [u32], desk: DeskState, end: u32) -> DeskState
     requires { Whole (m.desk_of desk seats.old words.now slots.old) × (desk.current < end) × (end ≤ last_count) }

@@ -6,6 +6,9 @@
 // that it touches, and tests for itself. One that refuses answers why, and writes nothing: the desk that
 // it was given stands. A refused setup alone writes: it leaves a fresh desk of one seat, which
 // is a seat's numbers and the first slot.
+//
+// Kept: state and lists go one by one and are no struct, by the calls' signatures: each is lent only
+// the lists that it touches, and a caller in C has the lists apart.
 #![tactic(auto)]
 
 mod frames;
