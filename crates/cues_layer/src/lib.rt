@@ -32,6 +32,8 @@ fn input_of(fields: &Fields) -> PlayerInput {
 }
 
 // l.local SEAT FRAME WORD
+// Kept: `remote` differs in the call alone. One function for both would take the call as a closure, whose promise, that a
+// whole layer stays whole, would have to be said of it.
 fn local(fields: &Fields, layer: SyncLayer, out: &mut [u8], at: usize) -> Told<SyncLayer>
     requires { Whole layer × (at + 192 ≤ length out.old) }
     ensures { Whole result.part × (result.at ≤ at + 191) }

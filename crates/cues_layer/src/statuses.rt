@@ -2,10 +2,11 @@
 ghost use Rattle.std.specs.Prelude.{◌+◌, ◌≤◌, length};
 
 use cues_text::{Fields, low};
+use sheet::calls::ON;
 
-// A seat is gone where its status is a frame, which is below 2^32.
+// A seat is gone where its status is a frame, which is below that of a seat that is on.
 fn is_gone(status: u64) -> bool {
-    status < 4294967296
+    status < ON
 }
 
 // n statuses, from a field on: whether a seat is gone, and its last frame, which does not matter for one that is not.

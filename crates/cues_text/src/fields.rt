@@ -4,6 +4,7 @@ ghost use Rattle.cues_text.specs.Args.{low_of, number_arg, frame_arg};
 
 // Their values, one each, in a list with room for those of the longest line, and how many the line has.
 // A field that it lacks has whatever stands there.
+// Kept: the count is beside the list, since `read_line` is lent the whole list and leaves what is past its fields.
 #[derive(Clone, Copy, Debug, PartialEq, Eq)]
 pub struct Fields<'a> {
     pub values: &'a [u64],
@@ -41,6 +42,7 @@ impl Fields<'_> {
 }
 
 // A field's value: the 32 bits that it stands for.
+// Kept: no cast, since `as` may lose nothing.
 pub fn low(value: u64) -> u32
     ensures { result ≡ low_of value }
 {

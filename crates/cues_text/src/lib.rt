@@ -1,7 +1,8 @@
 // The fields of a line as a call takes them, and the shapes of answers: the number, and values after it where that is 0. Each is put into `out`
 // from a place on, and answers where it ends.
 // Kept: the list and the place are two parameters, and no struct. The functions of `digits` take the two, and what a struct lends
-// is said in a contract by what the list holds at its entry and at its exit, which is no plainer.
+// is said in a contract by what the list holds at its entry and at its exit, which is no plainer. So the room that an answer needs
+// stands in each contract too, and a part's own `Whole`: a part is one of four types, and each has its own.
 #![tactic(auto)]
 
 mod fields;

@@ -20,6 +20,8 @@ use sync_layer_value::SyncLayer;
 use time_sync::TimeSync;
 
 // What is in force, and how many bytes of the output are filled.
+// Kept: `Whole` stands in the contracts and is no ghost field, since the definitions `force.with_queue` and its like make a
+// world of any parts. They put the output's count into it too.
 #[derive(Clone, Copy, Debug, PartialEq, Eq)]
 pub struct World {
     pub queue: InputQueue,

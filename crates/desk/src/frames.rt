@@ -207,6 +207,7 @@ fn serve_row(
 }
 
 // One frame, with the words served and their standings lent back.
+// Kept: `one_frame` is this without the two lists, for the same reason.
 #[tactic(auto, using(crate::proofs::Served::frames))]
 pub fn serve_frame(
     seats: &mut [u32],

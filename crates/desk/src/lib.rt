@@ -41,8 +41,8 @@ pub struct DeskState {
     pub console: Console,
 }
 
-// A setup's answer. One that is refused hands back a fresh desk too: so the two stand side by side,
-// and are no `Result`.
+// A setup's answer.
+// Kept: no `Result`, since `setup_of` promises a fresh desk beside a refusal too.
 #[derive(Clone, Copy, Debug, PartialEq, Eq)]
 pub struct Opened {
     pub refused: Option<Refusal>,
@@ -51,6 +51,7 @@ pub struct Opened {
 
 // What was corrected: the lowest mismatch, and how many frames were replayed from it; -1 and 0 where
 // no mismatch stood.
+// Kept: -1 and 0 and no Option, since `calls.report_at` says so and C reads them so.
 #[derive(Clone, Copy, Debug, PartialEq, Eq)]
 pub struct Report {
     pub frame: i32,
@@ -221,6 +222,7 @@ pub fn advance_into(
 // Serves one frame: 6, 5, changing nothing; else settles, saves, requests all seats, steps, and goes
 // one frame on. Lends back each seat's word and its status, confirmed or predicted; what is lent past
 // the seats stays as it was.
+// Kept: this and `advance_into` are two. This one's arrays have room, so that it asks for none, and the other one serves C.
 pub fn advance(
     seats: &mut [u32],
     words: &[u32],

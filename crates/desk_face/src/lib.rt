@@ -105,7 +105,7 @@ fn put_row(out: &mut [u32], row: &[u32; MAX_SEATS], n: usize)
     out[..n].copy_from_slice(&row[..n]);
 }
 
-// Each call stands twice below: within it answers a `Result`, and exported its number.
+// Kept: each call stands twice below. Within it answers a `Result`, for `?`, and exported its number, which is what C reads.
 //
 // A setup that refuses by 1 leaves a fresh desk all the same.
 #[tactic(auto, unfolding(crate::specs::Face::setup_room, crate::specs::Face::setup_on))]

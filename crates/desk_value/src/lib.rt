@@ -1,5 +1,8 @@
 // The desk as one value, its lists inside: the form by value of `desk`. Each method lends its own
 // lists to that crate's call of the same name, and puts the desk together again.
+//
+// Kept: `Whole` stands in the contracts and is no ghost field: the fields are public, and the definitions of specs/Value.antt
+// and a caller may make a desk of any numbers.
 #![tactic(auto)]
 
 ghost use Rattle.std.specs.Prelude.{◌≡◌};
@@ -23,8 +26,8 @@ pub struct Desk {
     pub slots: [u32; SLOTS_LENGTH],
 }
 
-// A setup's answer. One that is refused hands back a fresh desk too: so the two stand side by side,
-// and are no `Result`.
+// A setup's answer.
+// Kept: no `Result`, since `held.opened` promises a fresh desk beside a refusal too.
 #[derive(Clone, Copy, Debug, PartialEq, Eq)]
 pub struct OpenedDesk {
     pub refused: Option<Refusal>,

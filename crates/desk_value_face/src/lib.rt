@@ -10,8 +10,8 @@ ghost use Rattle.desk_value.specs.Value as held;
 ghost use Rattle.desk_value_face.specs.Said.{said_words};
 
 use desk_value::Desk;
-use frame_info::LAST_COUNT;
 use frame_info::refusal::Refusal;
+use frame_info::{BLANK, LAST_COUNT};
 
 // The night's limit and seats, and how many frames late seat 1 is.
 const LIMIT: u32 = 8;
@@ -73,7 +73,13 @@ impl Night {
                     self.draw(*word);
                 }
             }
-            Err(_) => self.refused = self.refused.wrapping_add(1),
+            Err(_) => {
+                self.refused = self.refused.wrapping_add(1);
+                // a refused advance serves blanks
+                for _ in 0..SEATS {
+                    self.draw(BLANK);
+                }
+            }
         }
     }
 

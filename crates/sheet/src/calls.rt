@@ -124,6 +124,8 @@ macro_rules! row {
     };
 }
 
+// Kept: a row of the table is a tuple, and `find_row` makes the `Row`: a struct that holds a text and an array of enums gets no
+// proof.
 pub static TABLE: [(&[u8], Call, u32, u32, [Kind; 4]); 37] = [
     row!(b"queue", Queue QueueCall::Open, 2 to 2: Number Number Unused Unused),
     row!(b"q.add", Queue QueueCall::Add, 2 to 2: Frame Word Unused Unused),

@@ -5,6 +5,9 @@
 // that it touches, and tests for itself. One that refuses answers why, and writes nothing: the layer
 // that it was given stands. A refused setup alone hands back a fresh layer, and so writes its one seat
 // and its one slot. The crate `sync_layer_value` has the same layer with its lists inside.
+//
+// Kept: `Ready`, `Seated`, `WordRoom` and `SlotRoom` stand in the contracts and in no type. They are of lists that C lends,
+// each call of those that it touches, and C's `layer_request` makes a `LayerState` of any numbers.
 #![tactic(auto)]
 
 mod seats;
@@ -64,8 +67,8 @@ pub struct LayerState {
     pub last_confirmed_count: u32,
 }
 
-// A setup's answer. One that is refused hands back a fresh layer too: so the two stand side by side,
-// and are no `Result`.
+// A setup's answer.
+// Kept: no `Result`, since `calls.opened` promises a fresh layer beside a refusal too.
 #[derive(Clone, Copy, Debug, PartialEq, Eq)]
 pub struct Opened {
     pub refused: Option<Refusal>,

@@ -1,5 +1,8 @@
 // The sync layer as one value, its lists inside. Each method lends its own lists to the call of the
 // same name in `sync_layer`, and puts the layer together again.
+//
+// Kept: `Whole` stands in the contracts and is no ghost field: the fields are public, and the definitions of specs/Value.antt
+// and a caller may make a layer of any numbers.
 #![tactic(auto)]
 
 ghost use Rattle.std.specs.Prelude.{◌≡◌};
@@ -22,8 +25,8 @@ pub struct SyncLayer {
     pub slots: [u32; SLOTS_LENGTH],
 }
 
-// A setup's answer. One that is refused hands back a fresh layer too: so the two stand side by side,
-// and are no `Result`.
+// A setup's answer.
+// Kept: no `Result`, since `held.opened` promises a fresh layer beside a refusal too.
 #[derive(Clone, Copy, Debug, PartialEq, Eq)]
 pub struct OpenedLayer {
     pub refused: Option<Refusal>,
