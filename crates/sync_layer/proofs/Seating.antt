@@ -1,6 +1,7 @@
 -- The seats' queues, read and written, over the seat's number. Assumes nothing.
 use Prim.Native.Nat.{ℕ, zero, suc, ◌+◌, ◌*◌, ◌<◌, ◌≤◌}
 use native.Mathlib.Omega.{arith}
+use native.Mathlib.Numerals.{add-one}
 use mathlib.Core.Path.{◌≡◌, refl, ◌∙◌}
 use mathlib.Core.Logic.{◌≢◌, ⊎_elim}
 use Prim.{absurd}
@@ -52,6 +53,13 @@ module _ (h : ℕ → QueueState → QueueState) where
       (λ e. rw e.0 (seat_same (map_seats n h l) n (h n (seat_at l n)) (omega (arith, map_long n l))))
       (λ e. seat_other (map_seats n h l) n i (h n (seat_at l n)) e.0 ∙ map_at n l i (omega arith) (omega (arith, e.0)))
       (split_eqb i n)
+
+  -- one seat more
+  pub map_turn : (n : ℕ) (l₀ l l' : List ℕ) (s r : QueueState) → l ≡ map_seats n h l₀ → s ≡ seat_at l n → r ≡ h n s → l' ≡ set_seat l n r → l' ≡ map_seats (n + 1) h l₀
+  unfolding map_seats
+  map_turn n l₀ l l' s r e a b g =
+      let d : s ≡ seat_at l₀ n = a ∙ rw e (map_past n l₀ n (omega arith)) in
+      rw add-one (g ∙ rw (b, d, e))
 
 -- what is written where it already stands
 kept_row : (n : ℕ) (l : List ℕ) (base : ℕ) (g : ℕ → ℕ) → ((k : ℕ) → k < n → g k ≡ get_or l (base + k) 0) → write_row n l base g ≡ l
