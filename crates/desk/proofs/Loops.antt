@@ -8,9 +8,7 @@ use mathlib.Core.List.{List, [], ◌∷◌, ◌++◌}
 use lib.ListN.{length, get_or, set, take, drop, length-append, length-drop, length-set}
 use Rattle.std.proofs.lemmas.List.{get_or-drop, append_assoc}
 use lib.Seq.{take-suc, drop-cons, set-append_seam}
-use Rattle.input_queue.specs.declared.QueueState.{QueueState}
 use Rattle.sync_layer.specs.Lists.{write_row}
-use Rattle.sync_layer.specs.Seats.{seat_at}
 use Rattle.sync_layer.specs.Slots.{slot_of, slot_at}
 use Rattle.sync_layer.specs.Whole.{SlotRoom}
 use Rattle.desk.specs.declared.DeskState.{DeskState}
@@ -41,10 +39,7 @@ module _ (n : ℕ) (g : ℕ → ℕ) where
     pub least_end : n ≤ i → m ≡ least_of (n - 1) g
     least_end p = let e : n ≡ i = omega (arith, a.upto) in rw e a.is
 
-pub seat_added : (l : List ℕ) (i : ℕ) (s : QueueState) → s ≡ seat_at l i → s.last_added_count ≡ (seat_at l i).last_added_count
-seat_added l i s e = ap (λ (q : QueueState). q.last_added_count) e
-
-pub ruleset leasts = (least_start, least_turn, least_end, seat_added)
+pub ruleset leasts = (least_start, least_turn, least_end)
 
 -- the row of values written so far, from the first place on
 pub record Written (n : ℕ) (g : ℕ → ℕ) (l₀ l : List ℕ) (i : ℕ) : Type 0 where
@@ -121,7 +116,7 @@ module _ (y : DeskState) (l : List ℕ) (f : ℕ) where
       (part_row y.seats l (at + 4) (omega (arith, r.few, r.near))
       ∙ row_eq y.seats (λ i. get_or l (at + 4 + i) 0) (λ i. slot_at y.limit l f (4 + i)) (λ i p. slot_word y.limit l f at i e))
 
-  pub words_long : (w : List ℕ) → w ≡ shown_words (desk_of y [] [] l) f → length w ≡ y.seats
+  words_long : (w : List ℕ) → w ≡ shown_words (desk_of y [] [] l) f → length w ≡ y.seats
   words_long w e = ap length e ∙ row_long y.seats (shown_word (desk_of y [] [] l) f)
 
   pub words_copied : (o w : List ℕ) → y.seats ≤ length o → w ≡ shown_words (desk_of y [] [] l) f
@@ -129,4 +124,4 @@ module _ (y : DeskState) (l : List ℕ) (f : ℕ) where
   words_copied o w p e =
       rw (words_long w e, e) (row_copied y.seats (shown_word (desk_of y [] [] l) f) o p)
 
-pub ruleset words = (words_part, words_long, words_copied)
+pub ruleset words = (words_part, words_copied)

@@ -98,13 +98,10 @@ module _ (n k c : ℕ) (l₀ w m₀ : List ℕ) (from : ℕ) where
       all_seats : n ≡ i
       all_seats = omega (arith, v.upto)
 
-      pub serving_seats : l ≡ map_seats n (λ i q. asked (predicted k) (word_at w (ring_of i)) q c) l₀
-      serving_seats = rw all_seats v.seats
-
       pub serving_slots : m ≡ write_row n m₀ from (λ i. answer (predicted k) (word_at w (ring_of i)) (seat_at l₀ i) c)
       serving_slots = rw all_seats v.slots
 
-pub ruleset servings = (serving_start, serving_places, serving_reach, serving_word, serving_status, serving_turn, serving_seats, serving_slots)
+pub ruleset servings = (serving_start, serving_places, serving_reach, serving_word, serving_status, serving_turn, serving_slots)
 
 -- One frame ---------------------------------------------------------------------------------------------------------------------
 
@@ -115,9 +112,6 @@ module _ (y : DeskState) (l w m : List ℕ) (h : Whole (desk_of y l w m)) (m₁ 
 
   pub frame_room : from + 4 ≤ length m₁
   frame_room = omega (arith, saved_long, h.deep, h.seated.ready.near)
-
-  pub frame_from : from ≤ 244
-  frame_from = omega (arith, h.seated.ready.near)
 
   module _ (l₂ m₂ : List ℕ) (d : l₂ ≡ map_seats y.seats (λ i q. asked (predicted y.predictor) (word_at w (ring_of i)) q y.current) l)
       (e : m₂ ≡ write_row y.seats m₁ from (λ i. answer (predicted y.predictor) (word_at w (ring_of i)) (seat_at l i) y.current)) where
@@ -151,14 +145,7 @@ module _ (y : DeskState) (l w m : List ℕ) (h : Whole (desk_of y l w m)) (m₁ 
           slots = i z;
         })
 
--- a frame's end, with the console that was worked out
-abbrev next_state : DeskState → Console → DeskState
-next_state y k = record { seats = y.seats; limit = y.limit; predictor = y.predictor; current = y.current + 1; console = k }
-
-pub frame_next : (y : DeskState) (k c : Console) → k ≡ c → next_state y k ≡ next_state y c
-frame_next y k c e = ap (next_state y) e
-
-pub ruleset frames = (frame_room, frame_from, frame_end, frame_desk, frame_next)
+pub ruleset frames = (frame_room, frame_end, frame_desk)
 
 -- Replay: one frame and then the rest -------------------------------------------------------------------------------------------
 
@@ -200,7 +187,7 @@ module _ (y e : DeskState) (l w m l' m' : List ℕ) (n : ℕ) (a : desk_of e l' 
       ∙ ap₂ (λ (p : ℕ) (d : Desk). replay step_of (predicted p) (n - e.current) d) (next_predictor y e l w m l' m' a) a
       ∙ sym (replay_first (n - y.current) (n - e.current) (predicted y.predictor) (desk_of y l w m) k)
 
-pub ruleset plays = (play_whole, play_last, play_rest)
+pub ruleset plays = (play_last, play_rest)
 
 -- Going back --------------------------------------------------------------------------------------------------------------------
 
@@ -231,9 +218,6 @@ module _ (y : DeskState) (l w m : List ℕ) (n : ℕ) (h : Whole (desk_of y l w 
   pub correct_upto : b.current ≤ y.current
   correct_upto = omega (arith, back_frame, low)
 
-  pub correct_early : y.current < last_count
-  correct_early = h.seated.ready.early
-
   pub correct_desk : (r : DeskState) (l'' m'' : List ℕ) → desk_of r l'' w m'' ≡ replay step_of (predicted b.predictor) (y.current - b.current) (desk_of b l' w m)
       → desk_of r l'' w m'' ≡ corrected step_of (predicted y.predictor) (desk_of y l w m)
   unfolding corrected
@@ -243,7 +227,7 @@ module _ (y : DeskState) (l w m : List ℕ) (n : ℕ) (h : Whole (desk_of y l w 
       ∙ ap (replay step_of (predicted y.predictor) (y.current - (n - 1))) back_desk
       ∙ rw (← e) (simp (ne_eqb _ _ z))
 
-pub ruleset corrects = (correct_none, correct_whole, correct_upto, correct_early, correct_desk)
+pub ruleset corrects = (correct_none, correct_whole, correct_upto, correct_desk)
 
 -- the desk's own numbers with another console
 abbrev with_console : DeskState → Console → DeskState
@@ -325,7 +309,7 @@ module _ (y : DeskState) (l w m : List ℕ) (h : Whole (desk_of y l w m)) where
 pub settle_report : (y : DeskState) (l w m : List ℕ) (n : ℕ) (r : Report) → n ≡ lowest_of y.seats (λ s. (seat_at l s).first_incorrect_count) → r ≡ calls.report_at n y.current → r ≡ calls.report_of (desk_of y l w m)
 settle_report y l w m n r e a = rw e at a
 
-pub ruleset settles = (settle_low, settle_seated, settle_desk, settle_report)
+pub ruleset settles = (settle_low, settle_seated, settle_desk)
 
 -- Advance -----------------------------------------------------------------------------------------------------------------------
 

@@ -1,5 +1,5 @@
--- A take and a log look at no list that they are not lent: on a desk's own lists they answer as on all of them. A frame that crosses the edge
--- comes back from its bits as f'. Assumes nothing.
+-- A take, a show and a log look at no list that they are not lent: on a desk's own lists they answer as on all of them. A frame that crosses the
+-- edge comes back from its bits as f'. Assumes nothing.
 use Prim.Native.Nat.{ℕ}
 use mathlib.Core.Path.{◌≡◌, refl, sym, ap, ◌∙◌}
 use mathlib.Core.Logic.{⊎_elim}
@@ -37,6 +37,10 @@ module _ (y : own.Desk) where
       = λ h. number_some r (ap (λ (x : Taken). x.no) a ∙ take-number (held.lent y) s f ∙ h) in
       simp (ne_eqb _ _ z) (λ i. record { no = (a i).no; place = (a i).place; desk = y })
 
+  pub show-answer : (n : ℕ) → calls.show_answer (desk_of y.state y.seats [] y.slots) n ≡ calls.show_answer (held.lent y) n
+  unfolding calls.show_answer is_settled
+  show-answer n = refl
+
   pub log-says : (f : ℤ) (l : List ℕ) → calls.log_says (desk_of y.state y.seats [] y.slots) f l ≡ calls.log_says (held.lent y) f l
   unfolding calls.log_says calls.log_answer calls.show_answer is_settled
   log-says f l = refl
@@ -44,5 +48,7 @@ module _ (y : own.Desk) where
   pub log-bytes : (f : ℤ) (l : List ℕ) → calls.log_bytes (desk_of y.state y.seats [] y.slots) f l ≡ calls.log_bytes (held.lent y) f l
   unfolding calls.log_bytes calls.log_answer calls.show_answer is_settled
   log-bytes f l = refl
+
+pub ruleset shows = (number_some, show-answer)
 
 pub ruleset logs = (log-says, log-bytes)

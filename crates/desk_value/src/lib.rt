@@ -169,7 +169,7 @@ impl Desk {
     }
 
     // A settled frame's words and the console after it: 7, 21.
-    #[tactic(auto, unfolding(crate::specs::Value::shown, desk::specs::Calls::show_says, desk::specs::Calls::show_words, desk::specs::Calls::show_answer, desk::specs::Settled::is_settled))]
+    #[tactic(auto, using(crate::proofs::Held::shows), unfolding(crate::specs::Value::shown, desk::specs::Calls::show_says, desk::specs::Calls::show_words))]
     pub fn show(self, frame: i32) -> Result<ShownDesk, Refusal>
         requires { held.Whole self }
         ensures { shown_said result ≡ held.shown self frame }
