@@ -15,6 +15,7 @@ const LENT_BYTE: u8 = 238;
 const LENT_LENGTH: u16 = 61166;
 
 // The lengths after a line's first three fields.
+// Kept: a remainder, which is the length itself, since `as` may lose nothing: `Fields` says nothing of what its values hold.
 fn read_lengths(fields: &Fields, lengths: &mut [u16])
     requires { length lengths.old + 3 ≤ 2048 }
 {
@@ -58,6 +59,7 @@ fn put_lengths_value(out: &mut [u8], at: usize, lengths: &[u16]) -> usize
 }
 
 // A number of bytes or lengths, as it is told: they are at most 4,096.
+// Kept: a remainder, which is the number itself, since `as` may lose nothing and no contract here bounds it.
 fn told_count(n: usize) -> u32 {
     (n % 65536) as u32
 }

@@ -73,9 +73,9 @@ fn delay(fields: &Fields, layer: SyncLayer, out: &mut [u8], at: usize) -> Told<S
     ensures { Whole result.part × (result.at ≤ at + 191) }
 {
     match layer.set_frame_delay(fields.number(0), fields.number(1)) {
-        Ok(fills) => Told {
-            part: fills.layer,
-            at: tell_fills(out, at, fills.first, fills.count, fills.word),
+        Ok(announced) => Told {
+            part: announced.layer,
+            at: tell_fills(out, at, announced.fills),
         },
         Err(refusal) => Told {
             part: layer,

@@ -109,9 +109,9 @@ fn delay(fields: &Fields, queue: InputQueue, out: &mut [u8], at: usize) -> Told<
         × Puts (tells.delayed_text fields.now.values.now queue) 63 at out.old out.new result.at }
 {
     match queue.set_frame_delay(fields.number(0)) {
-        Ok(fills) => Told {
-            part: fills.queue,
-            at: tell_fills(out, at, fills.first, fills.count, fills.word),
+        Ok(announced) => Told {
+            part: announced.queue,
+            at: tell_fills(out, at, announced.fills),
         },
         Err(refusal) => Told {
             part: queue,

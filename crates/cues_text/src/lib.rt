@@ -16,6 +16,7 @@ ghost use Rattle.cues_text.specs.Text.{Puts};
 use console::Console;
 use digits::{put_byte, put_decimal, put_signed, put_word};
 pub use fields::{Fields, low};
+use frame_info::Fills;
 use frame_info::refusal::Refusal;
 
 // What a call leaves: the part of the program's world that it was made on, and where its answer ends.
@@ -111,12 +112,12 @@ fn put_first_value(out: &mut [u8], at: usize, first: i32, count: u32) -> usize
     put_number_value(out, next, count)
 }
 
-pub fn put_fills_value(out: &mut [u8], at: usize, first: i32, count: u32, word: u32) -> usize
+pub fn put_fills_value(out: &mut [u8], at: usize, fills: Fills) -> usize
     requires { at + 32 ≤ length out.old }
-    ensures { Puts (text.fills_value first count word) 32 at out.old out.new result }
+    ensures { Puts (text.fills_value fills.first fills.count fills.word) 32 at out.old out.new result }
 {
-    let next = put_first_value(out, at, first, count);
-    put_word_value(out, next, word)
+    let next = put_first_value(out, at, fills.first, fills.count);
+    put_word_value(out, next, fills.word)
 }
 
 // A number, and nothing after it.
@@ -168,10 +169,10 @@ pub fn tell_served(out: &mut [u8], at: usize, word: u32, confirmed: bool) -> usi
     put_served_value(out, end, word, confirmed)
 }
 
-pub fn tell_fills(out: &mut [u8], at: usize, first: i32, count: u32, word: u32) -> usize
+pub fn tell_fills(out: &mut [u8], at: usize, fills: Fills) -> usize
     requires { at + 64 ≤ length out.old }
-    ensures { Puts (text.answer_text done (text.fills_value first count word)) 63 at out.old out.new result }
+    ensures { Puts (text.answer_text done (text.fills_value fills.first fills.count fills.word)) 63 at out.old out.new result }
 {
     let end = put_number(out, at, 0);
-    put_fills_value(out, end, first, count, word)
+    put_fills_value(out, end, fills)
 }

@@ -6,6 +6,8 @@ ghost use Rattle.std.proofs.lemmas.List.Edits.{sets};
 ghost use Rattle.digits.specs.Digits.{digit_in, number_of, and_then, pattern_of, decimal_of, word_of, signed_of, digit_byte, last_digits, width_of, decimal_text, signed_text, word_text, pair_text};
 
 // A byte's worth as a digit of a base, where it is one.
+// Kept: std's `to_digit` is of a character, and its promise is not in the words of `digit_of`. So is `from_digit`, for the
+// bytes that are written below.
 #[tactic(auto, unfolding(crate::specs::Digits::digit_of, crate::specs::Digits::digit_in))]
 fn to_digit(b: u8, base: u32) -> Option<u32>
     requires { base ≤ 16 }

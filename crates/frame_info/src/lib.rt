@@ -82,6 +82,15 @@ impl PlayerInput {
     }
 }
 
+// The fills that a delay change announces: the first one's frame, how many they are, and the word
+// that each repeats; -1, 0 and blank where there are none.
+#[derive(Clone, Copy, Debug, PartialEq, Eq)]
+pub struct Fills {
+    pub first: i32,
+    pub count: u32,
+    pub word: u32,
+}
+
 // The box: 1 for variable density.
 pub fn box_of(word: u32) -> u32
     ensures { result ≡ box_of word }

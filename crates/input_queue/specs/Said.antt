@@ -33,7 +33,7 @@ discarded_said s (Ok q) = record { no = done; state = q }
 discarded_said s (Err e) = record { no = number_of e; state = s }
 
 abbrev pub announced_in : declared_announced.Announced → Announced
-announced_in a = record { no = done; first = a.first; count = a.count; word = a.word; state = a.state }
+announced_in a = record { no = done; first = a.fills.first; count = a.fills.count; word = a.fills.word; state = a.state }
 
 abbrev pub announced_said : QueueState → Result declared_announced.Announced Refusal → Announced
 announced_said s (Ok a) = announced_in a

@@ -23,7 +23,7 @@ ghost use Rattle.input_queue.specs.Whole.{Sane, Whole};
 
 use frame_info::refusal::Refusal;
 use frame_info::{
-    BLANK, LAST_COUNT, MAX_DELAY, NULL_FRAME, PREDICTORS, PlayerInput, count_of, frame_of,
+    BLANK, Fills, LAST_COUNT, MAX_DELAY, NULL_FRAME, PREDICTORS, PlayerInput, count_of, frame_of,
 };
 pub use steps::{ask, discard, fresh_state, reset, store};
 
@@ -77,9 +77,7 @@ pub struct Asked {
 
 #[derive(Clone, Copy, Debug, PartialEq, Eq)]
 pub struct Announced {
-    pub first: i32,
-    pub count: u32,
-    pub word: u32,
+    pub fills: Fills,
     pub state: QueueState,
 }
 
@@ -205,12 +203,12 @@ pub fn set_frame_delay(
         return Ok(unannounced(state));
     }
     let added = s.last_added_count;
-    Ok(Announced {
+    let fills = Fills {
         first: frame_of(added + 1),
         count: delay - s.frame_delay,
         word: steps::newest_word(words, base, added),
-        state,
-    })
+    };
+    Ok(Announced { fills, state })
 }
 
 // The first mismatch, -1 where there is none.
@@ -238,12 +236,12 @@ fn announces(s: QueueState, delay: u32) -> bool
 fn unannounced(state: QueueState) -> Announced
     ensures { announced_in result ≡ calls.unannounced done state }
 {
-    Announced {
+    let fills = Fills {
         first: NULL_FRAME,
         count: 0,
         word: BLANK,
-        state,
-    }
+    };
+    Announced { fills, state }
 }
 
 // Whether an input is not for the frame after the last user frame.

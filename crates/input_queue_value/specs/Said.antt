@@ -28,5 +28,5 @@ discarded_said q (Ok a) = record { no = done; queue = a }
 discarded_said q (Err e) = record { no = number_of e; queue = q }
 
 abbrev pub announced_said : InputQueue → Result declared_announced.AnnouncedQueue Refusal → AnnouncedQueue
-announced_said q (Ok a) = record { no = done; first = a.first; count = a.count; word = a.word; queue = a.queue }
+announced_said q (Ok a) = record { no = done; first = a.fills.first; count = a.fills.count; word = a.fills.word; queue = a.queue }
 announced_said q (Err e) = record { no = number_of e; first = null_frame; count = 0; word = blank; queue = q }

@@ -9,7 +9,7 @@ ghost use Rattle.input_queue_value.specs.Said.{opened_said, added_said, served_s
 ghost use Rattle.input_queue_value.specs.Value as held;
 
 use frame_info::refusal::Refusal;
-use frame_info::{BLANK, PlayerInput};
+use frame_info::{BLANK, Fills, PlayerInput};
 use input_queue::{INPUT_QUEUE_LENGTH, QueueState};
 
 #[derive(Clone, Copy, Debug, PartialEq, Eq)]
@@ -44,9 +44,7 @@ pub struct ServedQueue {
 
 #[derive(Clone, Copy, Debug, PartialEq, Eq)]
 pub struct AnnouncedQueue {
-    pub first: i32,
-    pub count: u32,
-    pub word: u32,
+    pub fills: Fills,
     pub queue: InputQueue,
 }
 
@@ -129,9 +127,7 @@ impl InputQueue {
     {
         let announced = input_queue::set_frame_delay(&self.inputs[..], 0, self.state, delay)?;
         Ok(AnnouncedQueue {
-            first: announced.first,
-            count: announced.count,
-            word: announced.word,
+            fills: announced.fills,
             queue: InputQueue {
                 state: announced.state,
                 ..self

@@ -10,7 +10,7 @@ use Rattle.console.specs.Step.{start}
 use Rattle.sync_layer.specs.declared.LayerState.{LayerState}
 use Rattle.sync_layer.specs.declared.Opened as declared_opened
 use Rattle.sync_layer.specs.declared.Loaded as declared_loaded
-use Rattle.sync_layer.specs.declared.Announced as declared_announced
+use Rattle.frame_info.specs.declared.Fills.{Fills}
 use Rattle.sync_layer.specs.Answer.{Opened, Advanced, Confirmed, Loaded, Saved, Latest, Placed, Announced}
 
 abbrev pub opened_said : declared_opened.Opened → Opened
@@ -40,6 +40,6 @@ abbrev pub placed_said : Result ℤ Refusal → Placed
 placed_said (Ok f) = record { no = done; place = f }
 placed_said (Err e) = record { no = number_of e; place = null_frame }
 
-abbrev pub announced_said : Result declared_announced.Announced Refusal → Announced
+abbrev pub announced_said : Result Fills Refusal → Announced
 announced_said (Ok a) = record { no = done; first = a.first; count = a.count; word = a.word }
 announced_said (Err e) = record { no = number_of e; first = null_frame; count = 0; word = blank }

@@ -27,7 +27,7 @@ ghost use Rattle.sync_layer.specs.Whole.{SeatRoom, WordRoom, SlotRoom, Ready, Se
 
 use console::Console;
 use frame_info::refusal::Refusal;
-use frame_info::{LAST_COUNT, MAX_DELAY, PREDICTORS, PlayerInput, count_of, frame_of};
+use frame_info::{Fills, LAST_COUNT, MAX_DELAY, PREDICTORS, PlayerInput, count_of, frame_of};
 use input_queue::INPUT_QUEUE_LENGTH;
 pub use seats::{discard_seats, lowest_wrong, reset_seats, seat_at, set_seat};
 pub use serving::{
@@ -80,13 +80,6 @@ pub struct Opened {
 pub struct Loaded {
     pub state: Console,
     pub layer: LayerState,
-}
-
-#[derive(Clone, Copy, Debug, PartialEq, Eq)]
-pub struct Announced {
-    pub first: i32,
-    pub count: u32,
-    pub word: u32,
 }
 
 fn delays_in_range(delays: &[u32]) -> bool
@@ -391,7 +384,7 @@ pub fn set_frame_delay(
     layer: LayerState,
     seat: u32,
     delay: u32,
-) -> Result<Announced, Refusal>
+) -> Result<Fills, Refusal>
     requires { Seated layer seats.old × WordRoom words.now }
     ensures { (announced_said result ≡ calls.delayed_to layer seats.old words.now seat delay)
         × (seats.new ≡ calls.delayed_seats layer seats.old words.now seat delay) }
@@ -403,11 +396,7 @@ pub fn set_frame_delay(
     let s = seat_at(seats, i);
     let d = input_queue::set_frame_delay(words, i * INPUT_QUEUE_LENGTH, s, delay)?;
     set_seat(seats, i, d.state);
-    Ok(Announced {
-        first: d.first,
-        count: d.count,
-        word: d.word,
-    })
+    Ok(d.fills)
 }
 
 pub fn reset_prediction(seats: &mut [u32], layer: LayerState)

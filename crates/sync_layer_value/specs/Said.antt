@@ -36,7 +36,7 @@ placed_said y (Ok a) = record { no = done; place = a.place; layer = a.layer }
 placed_said y (Err e) = record { no = number_of e; place = null_frame; layer = y }
 
 abbrev pub announced_said : SyncLayer → Result declared_announced.AnnouncedLayer Refusal → AnnouncedLayer
-announced_said y (Ok a) = record { no = done; first = a.first; count = a.count; word = a.word; layer = a.layer }
+announced_said y (Ok a) = record { no = done; first = a.fills.first; count = a.fills.count; word = a.fills.word; layer = a.layer }
 announced_said y (Err e) = record { no = number_of e; first = null_frame; count = 0; word = blank; layer = y }
 
 abbrev pub served_said : SyncLayer → Result declared_served.ServedLayer Refusal → ServedLayer

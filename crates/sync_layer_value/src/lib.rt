@@ -14,7 +14,7 @@ ghost use Rattle.sync_layer_value.specs.Value as held;
 use console::Console;
 use frame_info::input_status::InputStatus;
 use frame_info::refusal::Refusal;
-use frame_info::{BLANK, PlayerInput};
+use frame_info::{BLANK, Fills, PlayerInput};
 use sync_layer::{LayerState, MAX_SEATS, SEATS_LENGTH, SLOTS_LENGTH, WORDS_LENGTH};
 
 #[derive(Clone, Copy, Debug, PartialEq, Eq)]
@@ -48,9 +48,7 @@ pub struct PlacedLayer {
 
 #[derive(Clone, Copy, Debug, PartialEq, Eq)]
 pub struct AnnouncedLayer {
-    pub first: i32,
-    pub count: u32,
-    pub word: u32,
+    pub fills: Fills,
     pub layer: SyncLayer,
 }
 
@@ -180,13 +178,8 @@ impl SyncLayer {
         ensures { announced_said self result ≡ held.delayed_to self seat delay }
     {
         let s = self.state;
-        let announced = sync_layer::set_frame_delay(&mut self.seats, &self.words, s, seat, delay)?;
-        Ok(AnnouncedLayer {
-            first: announced.first,
-            count: announced.count,
-            word: announced.word,
-            layer: self,
-        })
+        let fills = sync_layer::set_frame_delay(&mut self.seats, &self.words, s, seat, delay)?;
+        Ok(AnnouncedLayer { fills, layer: self })
     }
 
     pub fn reset_prediction(mut self) -> SyncLayer
