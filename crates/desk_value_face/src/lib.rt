@@ -112,6 +112,7 @@ impl Night {
 
 // Two words a frame. Answers 6 where there are more frames than a reel has, 20 where a list is too
 // short, and else how many calls were refused, which is 0 where all went well.
+// Kept: it answers a number and fills a list of numbers, since C calls `value_night`.
 pub fn value_night(words: &[u32], frames: u32, said: &mut [u32]) -> u32
     ensures { length said.new ≡ length said.old }
 {
