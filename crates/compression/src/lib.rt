@@ -163,8 +163,8 @@ fn sums_to(lengths: &[u16], n: usize) -> bool
 
 // The packet of the inputs that stand one after the other in pending, with these lengths, goes to the front of out.
 // Answers how many bytes it has: 18, 20.
-// Kept: bytes and lengths are two lists, since the lists that both calls are lent stay as they are, and no heap is here
-// to hold a list of lists.
+// Kept: here and in `delta_decode` bytes and lengths are two lists, since the definitions `pack_out`, `unpack_out` and
+// `unpack_lengths` name each, and no heap is here to hold a list of lists.
 #[tactic(auto, using(crate::proofs::Packing::length_packed), unfolding(crate::specs::Promise::pack_answer, crate::specs::Promise::pack_out, crate::specs::Promise::left))]
 pub fn delta_encode<'a>(
     reference: &'a [u8],

@@ -8,7 +8,7 @@ ghost use Rattle.std.specs.Prelude.{◌≡◌, ◌≤◌, ◌<◌, length};
 ghost use Rattle.cues_world.specs.Force.{Whole};
 
 use cues_world::World;
-use reading::Failed;
+use reading::{Failed, LINE};
 use std::fs::{File, Files};
 use std::io;
 use std::io::{Stdin, Stdout, Write};
@@ -23,12 +23,12 @@ fn answer_all(
     stdin: Stdin,
     stdout: Stdout,
     bytes: &mut [u8],
-    line: &mut [u8],
+    line: &mut [u8; LINE],
     args: &mut [u64],
     world: World,
     out: &mut [u8],
 ) -> Result<(), Failed>
-    requires { (4097 ≡ length line.old) × (2048 ≤ length args.old) × Whole world × (65536 ≡ length out.old) }
+    requires { (2048 ≤ length args.old) × Whole world × (65536 ≡ length out.old) }
 {
     let mut w = world;
     let mut reader = reading::start();
@@ -63,7 +63,7 @@ fn main(rt: HostRuntime) {
     // the bytes that are read at once, the longest line that is read and one byte, its fields, and the
     // answers that wait to be written
     let mut bytes = [0u8; 65536];
-    let mut line = [0u8; 4097];
+    let mut line = [0u8; LINE];
     let mut args = [0u64; 2048];
     let mut out = [0u8; 65536];
     let world = cues_world::start();

@@ -7,8 +7,9 @@
 // it was given stands. A refused setup alone writes: it leaves a fresh desk of one seat, which
 // is a seat's numbers and the first slot.
 //
-// Kept: state and lists go one by one and are no struct, by the calls' signatures: each is lent only
-// the lists that it touches, and a caller in C has the lists apart.
+// Kept: state and lists go one by one and are no struct, and what a call presumes of them, `Seated` or
+// `Whole`, stands in its contract: each is lent only the lists that it touches, a caller in C has the lists
+// apart, and `desk_at` makes a `DeskState` of any numbers that C lends.
 #![tactic(auto)]
 
 mod frames;

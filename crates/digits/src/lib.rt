@@ -110,6 +110,7 @@ fn put_digits(out: &mut [u8], at: usize, n: u32, base: u32, count: usize)
 }
 
 // How many decimal digits n has.
+// Kept: a division for each, as the definition `width_of` has it. `checked_ilog10` is no plainer: 0 has none.
 #[tactic(auto, using(crate::proofs::Writing::widths))]
 fn width_of(n: u32) -> usize
     ensures { result ≡ width_of n }

@@ -34,7 +34,7 @@ pub const BLANK: u32 = 0;
 const HIGHEST_COUNT: u32 = 2_147_483_648;
 
 // The frame as a count: 0 for one below 0.
-// Kept: a function, since `From` between two numbers is std's to write.
+// Kept: this and `frame_of` are functions, since `From` between two numbers is std's to write.
 pub fn count_of(frame: i32) -> u32
     ensures { result ≡ count_of frame }
 {

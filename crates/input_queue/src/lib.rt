@@ -7,8 +7,9 @@
 //
 // Each call tests for itself. One that refuses answers why, and writes nothing: the state that it was
 // given stands.
-// Kept: words, base and state go side by side, with `Whole` on each call, since C lends the states and
-// the words of all seats as two lists: a struct of the three would be built for every call.
+// Kept: words, base and state go side by side, with `Whole` on each call. C lends the states and the
+// words of all seats as two lists, so that a struct of the three is no plainer: it would be made for each
+// call and taken apart after it. `QueueState` has public fields, and takes any numbers.
 #![tactic(auto)]
 
 mod steps;

@@ -1,5 +1,8 @@
 // One seat's queue as one value, its ring inside: the form by value of `input_queue`. Each method
 // lends its own ring to that crate's call of the same name, and puts the queue together again.
+//
+// Kept: `Whole` stands in the contracts and is no ghost field: the fields are public, and the definitions of specs/Value.antt
+// and a caller may make a queue of any numbers.
 #![tactic(auto)]
 
 ghost use Rattle.std.specs.Prelude.{◌≡◌};

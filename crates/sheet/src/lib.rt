@@ -174,7 +174,7 @@ fn read_fields(fields: Fields, row: &Row, args: &mut [u64]) -> Line
     ensures { (line_said result ≡ (fields_from (call_said row.now) 0 (fields_of fields.entry.rest.now)).line)
         × (args.new ≡ sets args.old 0 (fields_from (call_said row.now) 0 (fields_of fields.entry.rest.now)).values) }
 {
-    // Kept: counted by hand, since the answer has the count.
+    // Kept: counted by hand and not by `enumerate`, since the count goes into the answer after the loop.
     let mut count: u32 = 0;
     for field in fields {
         if count >= row.most {
