@@ -40,6 +40,7 @@ impl Console {
 }
 
 // The jog as 32 bits, its sign carried to the top.
+// Kept: a remainder before the cast, since `as` may lose nothing.
 fn extend_jog(word: u32) -> u32
     ensures { result ≡ extended word }
 {

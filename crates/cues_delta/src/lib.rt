@@ -1,4 +1,6 @@
 // Delta coding's calls: each makes its call on the library and tells its answer, with the lent bytes and lengths whole.
+//
+// Kept: the room that an answer needs stands in each contract, since the list that is lent is longer than any one answer.
 #![tactic(auto)]
 
 ghost use Rattle.std.specs.Prelude.{◌≡◌, ◌+◌, ◌*◌, ◌≤◌, ◌<◌, length};
@@ -65,6 +67,7 @@ fn told_count(n: usize) -> u32 {
 }
 
 // The bytes of a line's field: there are no more than there is room for.
+// Kept: a filling that answers a length, since nothing here can answer a list of its own.
 fn field_bytes(line: &[u8], field: usize, out: &mut [u8]) -> usize
     ensures { result ≤ length out.old }
 {

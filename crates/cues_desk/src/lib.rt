@@ -1,4 +1,6 @@
 // The calls of the desk in force, by value: each makes its call and tells its answer. One that is refused leaves the desk as it was.
+//
+// Kept: the room that an answer needs stands in each contract, since the list that is lent is longer than any one answer.
 #![tactic(auto, using(crate::proofs::Keeping::keeping))]
 
 mod rows;

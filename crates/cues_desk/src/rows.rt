@@ -33,6 +33,7 @@ fn put_words(out: &mut [u8], at: usize, words: &[u32; MAX_SEATS], n: usize) -> u
 }
 
 // Each seat's word and whether it is confirmed.
+// Kept: two arrays, as `AdvancedDesk` has them.
 fn put_served(
     out: &mut [u8],
     at: usize,

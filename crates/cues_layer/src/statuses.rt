@@ -10,6 +10,7 @@ fn is_gone(status: u64) -> bool {
 }
 
 // n statuses, from a field on: whether a seat is gone, and its last frame, which does not matter for one that is not.
+// Kept: two arrays, as the calls of the layer are lent them.
 pub fn take(fields: &Fields, from: usize, n: usize, gone: &mut [bool], lasts: &mut [i32])
     requires { (from + n ≤ 2048) × (n ≤ length gone.old) × (n ≤ length lasts.old) }
 {

@@ -42,6 +42,7 @@ fn put_served(out: &mut [u8], at: usize, word: u32, status: InputStatus) -> usiz
 }
 
 // Every seat's word and status.
+// Kept: two arrays, as `ServedLayer` has them.
 pub fn tell_served(
     out: &mut [u8],
     at: usize,
@@ -68,6 +69,7 @@ fn put_found(out: &mut [u8], at: usize, frame: i32, word: u32) -> usize
 }
 
 // Every seat's frame and word.
+// Kept: two arrays, as `ConfirmedInputs` has them.
 pub fn tell_found(
     out: &mut [u8],
     at: usize,

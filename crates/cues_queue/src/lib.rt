@@ -1,4 +1,6 @@
 // The calls of the queue in force, by value: each makes its call and tells its answer. One that is refused leaves the queue as it was.
+//
+// Kept: the room that an answer needs stands in each contract, since the list that is lent is longer than any one answer.
 #![tactic(auto)]
 
 ghost use Rattle.std.specs.Prelude.{◌≡◌, ◌+◌, ◌≤◌, length};

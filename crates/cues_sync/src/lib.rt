@@ -1,4 +1,6 @@
 // The windows of time sync, and their calls: each makes its call on the library and tells its answer.
+//
+// Kept: the room that an answer needs stands in each contract, since the list that is lent is longer than any one answer.
 #![tactic(auto)]
 
 ghost use Rattle.std.specs.Prelude.{◌+◌, ◌≤◌, ◌≡◌, length};

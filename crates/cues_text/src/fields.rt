@@ -29,6 +29,7 @@ impl Fields<'_> {
     }
 
     // The numbers of the fields from one on, as many as the line has. Answers how many.
+    // Kept: a filling that answers a length, since nothing here can answer a list of its own.
     pub fn numbers(&self, from: usize, numbers: &mut [u32]) -> usize
         requires { (from ≤ 2048) × (2048 ≤ length numbers.old) }
         ensures { result ≡ self.now.count - from }
@@ -42,7 +43,7 @@ impl Fields<'_> {
 }
 
 // A field's value: the 32 bits that it stands for.
-// Kept: no cast, since `as` may lose nothing.
+// Kept: a remainder, as the definition `low_of` has it; a cast may lose nothing.
 pub fn low(value: u64) -> u32
     ensures { result ≡ low_of value }
 {

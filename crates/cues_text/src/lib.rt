@@ -2,7 +2,7 @@
 // from a place on, and answers where it ends.
 // Kept: the list and the place are two parameters, and no struct. The functions of `digits` take the two, and what a struct lends
 // is said in a contract by what the list holds at its entry and at its exit, which is no plainer. So the room that an answer needs
-// stands in each contract too, and a part's own `Whole`: a part is one of four types, and each has its own.
+// stands in each contract too, and a part's own `Whole`: a part is one of four types, and three of them have one.
 #![tactic(auto)]
 
 mod fields;
@@ -104,6 +104,8 @@ pub fn put_state_value(out: &mut [u8], at: usize, state: Console) -> usize
     put_word_value(out, next, state.seal)
 }
 
+// The first frame and the count of a fill.
+// Kept: two numbers of the three, since the definition `first_value` is of these two.
 fn put_first_value(out: &mut [u8], at: usize, first: i32, count: u32) -> usize
     requires { at + 23 ≤ length out.old }
     ensures { Puts (text.first_value first count) 23 at out.old out.new result }

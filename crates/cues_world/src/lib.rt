@@ -1,5 +1,7 @@
 // What is in force while a sheet is read, as one value, and one line of a sheet: it is read, its
 // call is made on the part of the world that it names, and its answer's line is written.
+//
+// Kept: the room that an answer needs stands in each contract, since the list that is lent is longer than any one answer.
 #![tactic(auto, using(crate::proofs::Keeping::keeping))]
 
 ghost use Rattle.std.specs.Prelude.{◌≡◌, ◌+◌, ◌≤◌, ◌<◌, length, set};

@@ -86,7 +86,8 @@ fn one_frame(seats: &mut [u32], words: &[u32], slots: &mut [u32], desk: DeskStat
 
 // At least one frame, to the end: one frame and then the rest. Every replayed frame is played from
 // here, so that the frame's code has one caller and is compiled into it.
-// Kept: a replay calls itself and is no loop, as document 01 has it and `specs::Desk::replay` says it.
+// Kept: a replay calls itself, as its promise, `m.replay`, goes frame by frame. A loop would say that by an
+// invariant over the frames played so far, which is no plainer.
 #[tactic(auto, using(crate::proofs::Served::plays))]
 fn play(seats: &mut [u32], words: &[u32], slots: &mut [u32], desk: DeskState, end: u32) -> DeskState
     requires { Whole (m.desk_of desk seats.old words.now slots.old) × (desk.current < end) × (end ≤ last_count) }

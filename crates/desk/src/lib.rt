@@ -52,7 +52,7 @@ pub struct Opened {
 
 // What was corrected: the lowest mismatch, and how many frames were replayed from it; -1 and 0 where
 // no mismatch stood.
-// Kept: -1 and 0 and no Option, since `calls.report_at` says so and C reads them so.
+// Kept: -1 and 0 and no Option, since `calls.report_at` says so.
 #[derive(Clone, Copy, Debug, PartialEq, Eq)]
 pub struct Report {
     pub frame: i32,
@@ -194,7 +194,8 @@ fn advance_refusal(seats: &[u32], desk: DeskState) -> Result<(), Refusal>
     Ok(())
 }
 
-// An advance into lists that have a place for every seat, for callers who have tested that.
+// An advance into lists that have a place for every seat, for callers who have tested that: C, whose
+// lists are as long as the caller says.
 #[tactic(auto, using(crate::proofs::Served::advancing))]
 pub fn advance_into(
     seats: &mut [u32],

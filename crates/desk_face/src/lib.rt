@@ -98,6 +98,7 @@ fn set_console(said: &mut [u32], console: Console)
 }
 
 // The first n numbers of a row go to the front of a list.
+// Kept: a length beside the row, since the desk's row is an array of four and n is its seats.
 fn put_row(out: &mut [u32], row: &[u32; MAX_SEATS], n: usize)
     requires { (n ≤ max_seats) × (n ≤ length out.old) }
     ensures { out.new ≡ write_row n out.old 0 (λ i. get_or row.now i 0) }

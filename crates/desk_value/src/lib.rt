@@ -48,6 +48,7 @@ pub struct SettledDesk {
 }
 
 // The words served and their statuses, seat by seat; 0 past the desk's seats.
+// Kept: `held.advanced` says this record field by field.
 #[derive(Clone, Copy, Debug, PartialEq, Eq)]
 pub struct AdvancedDesk {
     pub report: Report,

@@ -1,5 +1,7 @@
 // The export of the crate `desk_value_face` for the bench: its function of the same name, with the
-// same promise.
+// same promise. A crate is a library or an archive for C, so that the archive is a crate of its own.
+//
+// Kept: the C interface has a name, lists and numbers, and answers a number.
 #![tactic(auto)]
 
 ghost use Rattle.std.specs.Prelude.{◌≡◌, length};

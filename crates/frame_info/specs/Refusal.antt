@@ -1,7 +1,9 @@
 -- The numbers by which a call says no, as the promises cite them. src/refusal.rt has each one's sentence.
 use Rattle.std.specs.Prelude.{ℕ, Option, Some, None, Result, Ok, Err}
 use Rattle.frame_info.specs.declared.refusal.Refusal.{Refusal}
-use Rattle.frame_info.specs.declared.refusal.Refusal.TheVariants.{OutOfRange, NoSuchSeat, NotNextFrame, QueueFull, TooFarAhead, FrameTooHigh, FrameBelowZero, LoadNotPast, LoadTooOld, SlotHoldsAnother, NotConfirmed, NotCurrentFrame, MismatchStands, BelowOldest, AboveMismatch, HalfLength, FewerBytes, LengthsDiffer, NoRoomForLengths, NoRoomForBytes, NotSettled}
+use Rattle.frame_info.specs.declared.refusal.Refusal.TheVariants.{OutOfRange, NoSuchSeat, NotNextFrame, QueueFull, TooFarAhead, FrameTooHigh, FrameBelowZero}
+use Rattle.frame_info.specs.declared.refusal.Refusal.TheVariants.{LoadNotPast, LoadTooOld, SlotHoldsAnother, NotConfirmed, NotCurrentFrame, MismatchStands, BelowOldest}
+use Rattle.frame_info.specs.declared.refusal.Refusal.TheVariants.{AboveMismatch, HalfLength, FewerBytes, LengthsDiffer, NoRoomForLengths, NoRoomForBytes, NotSettled}
 
 abbrev pub done : ℕ
 done = 0

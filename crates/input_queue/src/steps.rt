@@ -193,6 +193,7 @@ pub fn ask(words: &[u32], base: usize, s: QueueState, predictor: u32, count: u32
 }
 
 // Clears prediction, mismatch and last requested.
+// Kept: the definition `reset`, which `reset_prediction` and each seat of the layer cite.
 #[tactic(auto, unfolding(crate::specs::Queue::reset))]
 pub fn reset(s: QueueState) -> QueueState
     ensures { result ≡ queue.reset s }
@@ -236,6 +237,7 @@ pub fn discard(s: QueueState, frame: u32) -> QueueState
 }
 
 // The queue with another delay.
+// Kept: the definition `delayed`, which a rise and a fall of the delay both cite.
 #[tactic(auto, unfolding(crate::specs::Queue::delayed))]
 pub fn with_delay(s: QueueState, delay: u32) -> QueueState
     ensures { result ≡ queue.delayed s delay }

@@ -164,6 +164,7 @@ pub fn last_confirmed_frame(layer: LayerState) -> i32
     frame_of(layer.last_confirmed_count)
 }
 
+// Kept: the definition `with_current`, which two promises cite, and so a function with its name.
 fn with_current(layer: LayerState, frame: u32) -> LayerState
     ensures { result ≡ calls.with_current layer frame }
 {

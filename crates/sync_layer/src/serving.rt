@@ -163,7 +163,8 @@ fn serve_seats(
     }
 }
 
-// A request into lists that have a place for every seat, for callers who have tested that.
+// A request into lists that have a place for every seat, for callers who have tested that: C, whose
+// lists are as long as the caller says.
 #[tactic(auto, unfolding(crate::specs::Calls::Requests::served_seats, crate::specs::Calls::Requests::served_words, crate::specs::Calls::Requests::statuses, crate::specs::Calls::Requests::request_refusal))]
 pub fn synchronized_inputs_into(
     seats: &mut [u32],
@@ -290,6 +291,7 @@ fn find_seats(
 
 // The stored word of every seat for a frame; -1 and blank for one that is gone: 2, 7, and then the
 // lowest seat that has none decides, by 11.
+// Kept: two lent arrays, filled together, which the by-value layer lends from its own record.
 #[tactic(auto, unfolding(crate::specs::Calls::Requests::confirmed_frames, crate::specs::Calls::Requests::confirmed_words, crate::specs::Calls::Requests::confirmed_refusal))]
 pub fn confirmed_inputs(
     seats: &[u32],

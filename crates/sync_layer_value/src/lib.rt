@@ -53,6 +53,7 @@ pub struct AnnouncedLayer {
 }
 
 // The words and their statuses, seat by seat; 0 past the layer's seats.
+// Kept: `held.served` says this record field by field.
 #[derive(Clone, Copy, Debug, PartialEq, Eq)]
 pub struct ServedLayer {
     pub inputs: [u32; MAX_SEATS],
@@ -60,6 +61,8 @@ pub struct ServedLayer {
     pub layer: SyncLayer,
 }
 
+// The frames and words that stand for a frame, seat by seat.
+// Kept: `held.confirmed_inputs` says this record field by field.
 #[derive(Clone, Copy, Debug, PartialEq, Eq)]
 pub struct ConfirmedInputs {
     pub frames: [i32; MAX_SEATS],
