@@ -142,18 +142,19 @@ pub fn answer(line: &[u8], args: &mut [u64], world: World, out: &mut [u8]) -> Wo
     ensures { Whole result × (result.filled ≤ world.filled + 16384)
         × (calls.PASSED ≤ (reading_of line.now).line.call → Idle (reading_of line.now).line.call out.old out.new world result) }
 {
-    match sheet::read_line(line, args) {
-        Line::Passed => world,
-        Line::Bad => World {
-            filled: digits::put_text(out, world.filled, b"bad\n"),
-            ..world
-        },
-        Line::Asks { call, count } => {
-            let fields = Fields {
-                values: &args[..],
-                count,
+    let (call, count) = match sheet::read_line(line, args) {
+        Line::Passed => return world,
+        Line::Bad => {
+            return World {
+                filled: digits::put_text(out, world.filled, b"bad\n"),
+                ..world
             };
-            make(call, line, &fields, world, out)
         }
-    }
+        Line::Asks { call, count } => (call, count),
+    };
+    let fields = Fields {
+        values: &args[..],
+        count,
+    };
+    make(call, line, &fields, world, out)
 }

@@ -7,7 +7,7 @@ use mathlib.Core.Bool.{Bool, true, false, ◌&&◌}
 use mathlib.Core.Logic.{⊎_elim}
 use Prim.{absurd}
 use mathlib.Core.List.{List, [], ◌∷◌}
-use lib.ListN.{length, get_or, set}
+use lib.ListN.{length, get_or, set, take, drop}
 use lib.Seq.{sets}
 use lib.Dec.{leb, eqb, ltb}
 use borrow.Author.Tests.{lt-ltb, le-ltb, le-leb, lt-leb, leb-true, eq-eqb, ne_eqb}
@@ -16,12 +16,13 @@ use Rattle.std.specs.List.{starts_with}
 use Rattle.frame_info.specs.Choice.{pick}
 use Rattle.frame_info.proofs.Split.{split_ltb, split_eqb}
 use Rattle.sheet.specs.Answer.{Line, Call}
-use Rattle.sheet.specs.Fields.{fields_of}
-use Rattle.sheet.specs.Steps.{call_named}
+use Rattle.sheet.specs.Fields.{pieces, filled, fields_of}
+use Rattle.sheet.specs.Steps.{ends_run, run_of, call_named}
 use Rattle.sheet.specs.Calls.{Row, row, calls, row_count, place_of, no_row, kind_at, value_of, BAD, PASSED}
 use Rattle.sheet.specs.Reading.{Reading, alone, before, fields_from, called, fields_read, reading_of, args_after}
 use Rattle.sheet.proofs.Texts.{and_true}
 use Rattle.sheet.proofs.Decoding.{both}
+use Rattle.sheet.proofs.Fielding.{rest_starts, fields_first, fields_skip}
 
 -- ---- the fields of a call, where f is the next and those of gs follow it
 
@@ -164,6 +165,51 @@ module _ (l : List ℕ) (s : length l ≤ 4096) where
         pub known_is : (c : Call) → Some c ≡ call_named f → reading_of l ≡ fields_from c 0 fs
         known_is c k = rw (first_is, ← e, y) (named f c k fs)
 
+-- A field begins as what it is taken from does, where no space stands there.
+front : (b : ℕ) (s f : List ℕ) (fs : List (List ℕ)) → (b ≡ 32 → ⊥) → fields_of (b ∷ s) ≡ f ∷ fs → starts_with eqb f (35 ∷ []) ≡ starts_with eqb (b ∷ s) (35 ∷ [])
+unfolding run_of ends_run
+front b s f fs w n = by f (sym n ∙ simp (ne_eqb b 32 w) at (fields_first b s w))
+  where
+    by : (g : List ℕ) → g ∷ fs ≡ (b ∷ take (run_of false s) s) ∷ fields_of (drop (run_of false s) s) → starts_with eqb g (35 ∷ []) ≡ starts_with eqb (b ∷ s) (35 ∷ [])
+    by [] z = absurd (cc)
+    by (c ∷ g) z = let k : c ≡ b = cc in rw k
+
+-- the same of what stands behind the spaces at a line's front: its first byte says whether it is a comment
+module _ (l rest : List ℕ) (i : ℕ) (s : length l ≤ 4096) (a : i ≡ run_of true l) (d : rest ≡ drop i l) where
+  skipped : fields_of l ≡ fields_of rest
+  skipped = rw (d, a) (sym (fields_skip l))
+
+  begins : 0 < length rest → get_or rest 0 0 ≡ 32 → ⊥
+  begins = rw (d, a) (rest_starts l)
+
+  pub rest_empty : fields_of rest ≡ [] → reading_of l ≡ alone PASSED
+  rest_empty n = empty_is l s (skipped ∙ n)
+
+  module _ (t : Bool) (e : t ≡ starts_with eqb rest (35 ∷ [])) where
+    module _ (f : List ℕ) (fs : List (List ℕ)) (n : fields_of rest ≡ f ∷ fs) where
+      same_front : t ≡ starts_with eqb f (35 ∷ [])
+      unfolding fields_of pieces filled
+      same_front = e ∙ sym (by rest begins n)
+        where
+          by : (r : List ℕ) → (0 < length r → get_or r 0 0 ≡ 32 → ⊥) → fields_of r ≡ f ∷ fs → starts_with eqb f (35 ∷ []) ≡ starts_with eqb r (35 ∷ [])
+          by [] w m = absurd (cc)
+          by (b ∷ r) w m = front b r f fs (w (omega arith)) m
+
+      pub rest_unknown : t ≡ false → None ≡ call_named f → reading_of l ≡ alone BAD
+      rest_unknown y k = unknown_is l s f fs (skipped ∙ n) t same_front y k
+
+      pub rest_known : t ≡ false → (c : Call) → Some c ≡ call_named f → reading_of l ≡ fields_from c 0 fs
+      rest_known y c k = known_is l s f fs (skipped ∙ n) t same_front y c k
+
+    pub rest_comment : t ≡ true → reading_of l ≡ alone PASSED
+    rest_comment y = by rest skipped begins (sym e ∙ y)
+      where
+        by : (r : List ℕ) → fields_of l ≡ fields_of r → (0 < length r → get_or r 0 0 ≡ 32 → ⊥) → starts_with eqb r (35 ∷ []) ≡ true → reading_of l ≡ alone PASSED
+        by [] k w z = absurd (cc)
+        by (b ∷ r) k w z =
+            let g = fields_first b r (w (omega arith)) in
+            comment_is l s _ _ (k ∙ g) true (sym (front b r _ _ (w (omega arith)) g ∙ z)) refl
+
 module _ (l args : List ℕ) where
   -- a line that makes no call hands nothing out
   module _ (k : ℕ) (e : reading_of l ≡ alone k) where
@@ -184,4 +230,4 @@ module _ (l args : List ℕ) where
     unfolding args_after
     made_args args' a = rw e a
 
-pub ruleset lines = (long_is, empty_is, comment_is, unknown_is, known_is, alone_line, alone_args, made_line, made_args)
+pub ruleset lines = (long_is, rest_empty, rest_comment, rest_unknown, rest_known, alone_line, alone_args, made_line, made_args)

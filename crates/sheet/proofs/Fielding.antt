@@ -45,7 +45,7 @@ run_found w s o r e q =
     (split_ltb (position_or_len (λ b. ends_run b w) s) (length s))
 
 -- past a run of spaces stands none
-rest_starts : (s : List ℕ) → 0 < length (drop (run_of true s) s) → get_or (drop (run_of true s) s) 0 0 ≡ 32 → ⊥
+pub rest_starts : (s : List ℕ) → 0 < length (drop (run_of true s) s) → get_or (drop (run_of true s) s) 0 0 ≡ 32 → ⊥
 unfolding run_of ends_run
 rest_starts [] = λ h e. omega arith
 rest_starts (b ∷ s) =
@@ -89,13 +89,13 @@ fields_none : fields_of [] ≡ []
 unfolding fields_of pieces filled
 fields_none = refl
 
-fields_first : (b : ℕ) (s : List ℕ) → (b ≡ 32 → ⊥) → fields_of (b ∷ s) ≡ take (run_of false (b ∷ s)) (b ∷ s) ∷ fields_of (drop (run_of false (b ∷ s)) (b ∷ s))
+pub fields_first : (b : ℕ) (s : List ℕ) → (b ≡ 32 → ⊥) → fields_of (b ∷ s) ≡ take (run_of false (b ∷ s)) (b ∷ s) ∷ fields_of (drop (run_of false (b ∷ s)) (b ∷ s))
 unfolding run_of ends_run filled fields_of
 fields_first b s h =
     ap filled (pieces_first (b ∷ s))
     ∙ simp (ne_eqb b 32 h) (ap (λ (fs : List (List ℕ)). (b ∷ take (run_of false s) s) ∷ fs) (simp (ne_eqb b 32 h) at (pieces_rest (b ∷ s))))
 
-fields_skip : (s : List ℕ) → fields_of (drop (run_of true s) s) ≡ fields_of s
+pub fields_skip : (s : List ℕ) → fields_of (drop (run_of true s) s) ≡ fields_of s
 unfolding run_of ends_run fields_of pieces filled
 fields_skip [] = refl
 fields_skip (b ∷ s) =

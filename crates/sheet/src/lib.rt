@@ -203,13 +203,15 @@ pub fn read_line(line: &[u8], args: &mut [u64]) -> Line
     if line.len() > LONGEST {
         return Line::Bad;
     }
-    let mut fields = Fields { rest: line };
+    // a comment is told by its first byte, so that the rest of it is not read
+    let (_, rest) = line.split_at(run_of(line, true));
+    if rest.starts_with(b"#") {
+        return Line::Passed;
+    }
+    let mut fields = Fields { rest };
     let Some(name) = fields.next() else {
         return Line::Passed;
     };
-    if name.starts_with(b"#") {
-        return Line::Passed;
-    }
     let Some(row) = find_row(name) else {
         return Line::Bad;
     };

@@ -1,9 +1,13 @@
+use Rattle.sheet.proofs.Fielding.{run_within}
 use Rattle.sheet.proofs.Calling.{lines, named_few}
 use borrow.Author.Rules.{rules}
 use Rattle.sheet.proofs.read_line.Goals as goal
 
 pub returns-then-line-gt-LONGEST : goal.returns-then-line-gt-LONGEST
 returns-then-line-gt-LONGEST c = search (rules, lines)
+
+pub split_at-requires : goal.split_at-requires
+split_at-requires c = search (rules, run_within)
 
 pub returns-in_default : goal.returns-in_default
 returns-in_default c = search (rules, lines)
