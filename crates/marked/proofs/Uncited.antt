@@ -1,5 +1,5 @@
 -- Laws that no proof cites any more and that docs/PORT.md names. Their crates' proofs do without them; they hold, and stand here. Assumes nothing.
-use Prim.Native.Nat.{ℕ, zero, suc, ◌+◌, ◌-◌, ◌*◌, ◌%◌, ◌^◌, ◌<◌, ◌≤◌}
+use Prim.Native.Nat.{ℕ, zero, suc, ◌+◌, ◌-◌, ◌*◌, ◌%◌, ◌<◌, ◌≤◌}
 use Prim.{absurd}
 use native.Mathlib.Nat.{zero-add, suc-add}
 use native.Mathlib.Omega.{arith}
@@ -10,7 +10,7 @@ use mathlib.Core.Logic.{⊎_elim}
 use mathlib.Core.List.{List, [], ◌∷◌, ◌++◌, append_assoc}
 use lib.Dec.{T}
 use lib.IntN.{ℤ, pos, negsuc, nat_abs}
-use lib.ListN.{length, take, drop, get_or, set}
+use lib.ListN.{length, take, drop, set}
 use lib.Seq.{sets, paste, paste-zero, take-nil, take-append-le, take_all, length-take-le}
 use lib.Signed.{mag, lt_z, non_neg}
 use mir.Syntax.{w32}
