@@ -64,7 +64,7 @@ inputs_after body half e = cc
 inputs_after body short e = cc
 
 -- the base in force after the first input
-base_after : (reference earlier : List ℕ) (k from upto : ℕ) → base_at reference earlier (k + 1) from upto ≡ take (upto - from) (drop from earlier)
+pub base_after : (reference earlier : List ℕ) (k from upto : ℕ) → base_at reference earlier (k + 1) from upto ≡ take (upto - from) (drop from earlier)
 base_after reference earlier k from upto = simp (ne_eqb (k + 1) 0 (λ e. omega arith))
 
 -- the records from a place on, and the bytes and lengths of all inputs

@@ -1,5 +1,5 @@
--- The numbers by which a call says no, as the promises cite them. src/refusal.rt has each one's sentence.
-use Rattle.std.specs.Prelude.{ℕ, Option, Some, None, Result, Ok, Err}
+-- The numbers by which a call says no, as the promises cite them, and the sentence that is printed of each.
+use Rattle.std.specs.Prelude.{ℕ, List, codes, Option, Some, None, Result, Ok, Err}
 use Rattle.frame_info.specs.declared.refusal.Refusal.{Refusal}
 use Rattle.frame_info.specs.declared.refusal.Refusal.TheVariants.{OutOfRange, NoSuchSeat, NotNextFrame, QueueFull, TooFarAhead, FrameTooHigh, FrameBelowZero}
 use Rattle.frame_info.specs.declared.refusal.Refusal.TheVariants.{LoadNotPast, LoadTooOld, SlotHoldsAnother, NotConfirmed, NotCurrentFrame, MismatchStands, BelowOldest}
@@ -94,6 +94,30 @@ number_of LengthsDiffer = lengths_differ
 number_of NoRoomForLengths = no_room_for_lengths
 number_of NoRoomForBytes = no_room_for_bytes
 number_of NotSettled = not_settled
+
+-- the sentence of each, as bytes: what is printed of a refusal
+abbrev pub sentence_of : Refusal → List ℕ
+sentence_of OutOfRange = codes "a setup with seats, limit, delay or predictor out of range, or a delay change above 60"
+sentence_of NoSuchSeat = codes "there is no such seat"
+sentence_of NotNextFrame = codes "the input is not for the frame after the last one"
+sentence_of QueueFull = codes "the word and its fills would make more than 128 undiscarded"
+sentence_of TooFarAhead = codes "the current frame is more than the limit past K"
+sentence_of FrameTooHigh = codes "the frame is above 1,000,000,000, or an advance would go above it"
+sentence_of FrameBelowZero = codes "the frame is below 0"
+sentence_of LoadNotPast = codes "a load of the current frame or a later one"
+sentence_of LoadTooOld = codes "a load of a frame more than the limit before the current one"
+sentence_of SlotHoldsAnother = codes "the frame's slot does not hold it"
+sentence_of NotConfirmed = codes "there is no confirmed word for the frame"
+sentence_of NotCurrentFrame = codes "a local input that is not for the current frame"
+sentence_of MismatchStands = codes "a request while a mismatch stands"
+sentence_of BelowOldest = codes "a request below the oldest frame that is kept"
+sentence_of AboveMismatch = codes "a confirm, after its caps, above some seat's mismatch"
+sentence_of HalfLength = codes "one byte stands where a length should be"
+sentence_of FewerBytes = codes "there are fewer bytes than the length says"
+sentence_of LengthsDiffer = codes "the lengths do not sum to the pending bytes"
+sentence_of NoRoomForLengths = codes "there is no room for the lengths"
+sentence_of NoRoomForBytes = codes "there is no room for the bytes"
+sentence_of NotSettled = codes "the frame is not settled"
 
 -- the number by which a call answers: 0 where it is done
 abbrev pub number_in : {A : Type 0} → Result A Refusal → ℕ

@@ -1,6 +1,6 @@
 // Why a call says no, by the numbers that its promises cite.
-ghost use Rattle.std.specs.Prelude.{◌≡◌};
-ghost use Rattle.frame_info.specs.Refusal.{number_of};
+ghost use Rattle.std.specs.Prelude.{◌≡◌, Some};
+ghost use Rattle.frame_info.specs.Refusal.{number_of, sentence_of};
 
 use std::error::Error;
 use std::fmt;
@@ -70,6 +70,8 @@ impl From<Refusal> for u32 {
 }
 
 impl fmt::Display for Refusal {
+    ghost output = { λ refusal. Some (sentence_of refusal) };
+
     fn fmt<W: fmt::Write>(&self, f: &mut fmt::Formatter<W>) -> fmt::Result {
         f.write_str(match self {
             Refusal::OutOfRange =>

@@ -1,7 +1,7 @@
 -- What a call presumes of a queue is given by a setup and kept by every call. Assumes nothing.
 use Prim.Native.Nat.{ℕ, zero, suc, ◌+◌, ◌-◌, ◌<◌, ◌≤◌}
 use native.Mathlib.Omega.{arith}
-use mathlib.Core.Path.{◌≡◌, refl, ◌∙◌}
+use mathlib.Core.Path.{◌≡◌, refl, sym, ◌∙◌}
 use mathlib.Core.Bool.{true, false}
 use mathlib.Core.Logic.{◌⊎◌, ⊎_elim}
 use mathlib.Core.List.{List, [], ◌∷◌}
@@ -19,6 +19,7 @@ use Rattle.input_queue.specs.Calls as calls
 use Rattle.input_queue.specs.Whole.{Sane, Whole}
 use Rattle.input_queue.specs.Runs as runs
 use Rattle.input_queue.specs.Runs.{Queue, Call, add_call, input_call, discard_call, reset_call, delay_call}
+use Rattle.input_queue.proofs.Answers.{add_low}
 use Rattle.input_queue.proofs.Fills.{put_added, put_ahead, fill_added, fill_ahead}
 use Rattle.std.proofs.lemmas.Bool.Decides.{nat_tests}
 
@@ -96,11 +97,6 @@ add_room : (s : QueueState) (c : ℕ) → calls.add_refusal s c ≡ 0 → (c - 1
 unfolding calls.add_refusal
 add_room s c z = grind (arith, nat_tests)
 
--- whose frame is in range
-add_low : (s : QueueState) (c : ℕ) → calls.add_refusal s c ≡ 0 → c - 1 < last_count
-unfolding calls.add_refusal
-add_low s c z = grind (arith, nat_tests)
-
 pub asked_sane : (p at : ℕ → ℕ) (s : QueueState) (f : ℕ) → Sane s → Sane (asked p at s f)
 unfolding asked
 asked_sane p at s f h =
@@ -150,7 +146,7 @@ module _ (l : List ℕ) (base : ℕ) (s : QueueState) (h : Whole l base s) where
       (λ a. simp a.1
       (record {
         room = rw (add_long l base s (count_of i.frame - 1) i.input) h.room;
-        numbers = add_sane (word_at l base) s (count_of i.frame - 1) i.input h.numbers (add_low s (count_of i.frame) a.0) (add_room s (count_of i.frame) a.0);
+        numbers = add_sane (word_at l base) s (count_of i.frame - 1) i.input h.numbers (add_low s (count_of i.frame) 0 (sym a.0) refl) (add_room s (count_of i.frame) a.0);
       }))
       (λ a. simp a.1 h)
       (split_eqb (calls.add_refusal s (count_of i.frame)) 0)

@@ -1,5 +1,5 @@
 -- Laws that no proof cites any more and that docs/PORT.md names. Their crates' proofs do without them; they hold, and stand here. Assumes nothing.
-use Prim.Native.Nat.{ℕ, zero, suc, ◌+◌, ◌-◌, ◌*◌, ◌%◌, ◌^◌, ◌<◌, ◌≤◌}
+use Prim.Native.Nat.{ℕ, zero, suc, ◌+◌, ◌-◌, ◌*◌, ◌%◌, ◌<◌, ◌≤◌}
 use Prim.{absurd}
 use native.Mathlib.Nat.{zero-add, suc-add}
 use native.Mathlib.Omega.{arith}
@@ -10,22 +10,26 @@ use mathlib.Core.Logic.{⊎_elim}
 use mathlib.Core.List.{List, [], ◌∷◌, ◌++◌, append_assoc}
 use lib.Dec.{T}
 use lib.IntN.{ℤ, pos, negsuc, nat_abs}
-use lib.ListN.{length, take, drop, get_or, set}
+use lib.ListN.{length, take, drop, set}
 use lib.Seq.{sets, paste, paste-zero, take-nil, take-append-le, take_all, length-take-le}
 use lib.Signed.{mag, lt_z, non_neg}
 use mir.Syntax.{w32}
 use mir.Val.{SFits}
 use borrow.Author.Tests.{ltb-true, not-true}
-use Rattle.frame_info.proofs.Split.{split_eqb}
+use Rattle.frame_info.proofs.Split.{split_eqb, split_bool}
 use Rattle.frame_info.specs.Choice.{pick}
 use Rattle.frame_info.specs.Frame.{count_of}
 use Rattle.compression.specs.Layout.{packed, split, total}
 use Rattle.compression.specs.Inside.{base_at}
 use Rattle.time_sync.specs.Sums.{residue}
 use Rattle.time_sync.specs.Windows.{slot_of}
+use Rattle.console.specs.Step.{start}
+use Rattle.sync_layer.specs.Answer.{Opened}
+use Rattle.sync_layer.specs.Calls as layer
 use Rattle.desk.specs.declared.DeskState.{DeskState}
-use Rattle.desk.specs.Desk.{desk_of}
-use Rattle.desk.specs.Whole.{Whole}
+use Rattle.desk.specs.Desk.{desk_of, setup_state, take_answer}
+use Rattle.desk.specs.Whole.{Whole, Seated}
+use Rattle.desk.proofs.Kept.{Accepts, take_accepts}
 use Rattle.desk_face.specs.Face.{Lent, Left, left, leaves}
 use Rattle.cues_text.specs.Text.{standing_byte, standing_value}
 
@@ -137,6 +141,21 @@ module _ (reference pending lengths d : List ℕ) where
     pub packs_none : Packs 0 0 0 d
     packs_none =
         record { ordered = omega arith; few = omega arith; sum = omega arith; laid = paste-zero d 0 whole_packet; rest = refl; long = refl }
+
+-- ---- desk
+
+-- what a setup leaves, from what the layer's answers
+module _ (limit p : ℕ) (delays l m : List ℕ) (o : Opened) (e : o ≡ layer.opened limit p delays) where
+  pub fresh-state : record { seats = o.layer.num_players; limit = o.layer.max_prediction; predictor = o.layer.predictor; current = 0; console = start } ≡ setup_state limit p delays
+  unfolding setup_state layer.opened
+  fresh-state = rw e (⊎_elim (λ (a : layer.fits limit p delays ≡ true). simp a) (λ (a : layer.fits limit p delays ≡ false). simp a) (split_bool (layer.fits limit p delays)))
+
+-- a seat whose word is taken has its numbers in the list
+module _ (y : DeskState) (l : List ℕ) (s c n : ℕ) (g : n ≡ take_answer (desk_of y l [] []) s c) (z : n ≡ 0) (h : Seated y l) where
+  pub take-room : (s + 1) * 8 ≤ length l
+  take-room =
+      let free : Accepts (desk_of y l [] []) s c = take_accepts (desk_of y l [] []) s c (sym g ∙ z) in
+      omega (arith, free.here, h.ready.few, h.room)
 
 -- ---- desk_face
 

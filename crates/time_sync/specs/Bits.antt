@@ -1,6 +1,6 @@
 -- A binary32 without its fraction, from its bits.
-use Rattle.std.specs.Prelude.{◌≡◌, ℕ, ◌+◌, ◌*◌, ◌/◌, ◌%◌, ◌^◌, ◌<◌, Bool, cond, ℤ, pos, neg_ℤ, Float}
-use Rattle.std.specs.Float.{nan, inf, fin}
+use Rattle.std.specs.Prelude.{◌≡◌, ℕ, ◌+◌, ◌*◌, ◌/◌, ◌%◌, ◌^◌, ◌<◌, Bool, cond, ℤ, pos, neg_ℤ, leb, to_bits, Float}
+use Rattle.std.specs.Float.{nan, inf, fin, binary32}
 use Rattle.std.specs.Float.Ieee.{up, down}
 
 -- a finite number, less than 2^31 in size
@@ -20,6 +20,10 @@ whole_of b = (2 ^ 23 + b % 2 ^ 23) * 2 ^ (b / 2 ^ 23) / 2 ^ 150
 -- n with the sign s
 abbrev pub signed : Bool → ℕ → ℤ
 signed s n = cond s (neg_ℤ (pos n)) (pos n)
+
+-- the whole part of a binary32 by its bits alone: the bit of 2^31 is its sign, and the bits below it are its size
+unfoldable pub cut_of : Float → ℤ
+cut_of x = signed (leb (2 ^ 31) (to_bits binary32 x)) (whole_of (to_bits binary32 x % 2 ^ 31))
 
 -- z is all of the number's whole part, with its sign: nothing is cut at an end of a range
 abbrev pub IsWholePart : Float → ℤ → Type 0

@@ -2,11 +2,13 @@
 #![tactic(auto)]
 
 ghost use Rattle.std.specs.Prelude.{◌≡◌};
+ghost use Rattle.std.specs.Float.Ieee.{to_signed};
 ghost use Rattle.frame_info.specs.Refusal.{number_in};
 ghost use Rattle.time_sync.specs.Windows.{fresh, slot_of, advanced};
 ghost use Rattle.time_sync.specs.Said.{slot_in, advanced_said};
 ghost use Rattle.time_sync.specs.Sums.{window_sum};
 ghost use Rattle.time_sync.specs.Averages.{average, averages_of, half};
+ghost use Rattle.time_sync.specs.Bits.{Under31, cut_of};
 ghost use Rattle.time_sync.specs.Answer.{frame_advantage};
 ghost use Rattle.time_sync.specs.Readings.{shown, reading_of};
 
@@ -64,6 +66,14 @@ fn average_of(window: &[i32; WINDOW]) -> f32
     ensures { result ≡ average window.now }
 {
     nearest_i32_to_f32(sum(window)) / 30.0
+}
+
+// x without its fraction, for an x that is less than 2^31 in size: what IEEE says, and what x's bits say.
+fn truncated(x: f32) -> i32
+    requires { Under31 x }
+    ensures { (result ≡ to_signed 31 x) × (result ≡ cut_of x) }
+{
+    saturating_f32_to_i32(x)
 }
 
 impl TimeSync {
@@ -129,7 +139,7 @@ impl TimeSync {
     pub fn average_frame_advantage(self) -> i32
         ensures { result ≡ frame_advantage self }
     {
-        saturating_f32_to_i32(self.meeting_point())
+        truncated(self.meeting_point())
     }
 
     // The half as it is: even, over by or under by.
