@@ -18,14 +18,14 @@ impl Fields<'_> {
         requires { field < length self.now.values.now }
         ensures { result ≡ number_arg self.now.values.now field }
     {
-        low(self.values[field])
+        number_arg(self.values, field)
     }
 
     pub fn frame(&self, field: usize) -> i32
         requires { field < length self.now.values.now }
         ensures { result ≡ frame_arg self.now.values.now field }
     {
-        low(self.values[field]).cast_signed()
+        frame_arg(self.values, field)
     }
 
     // The numbers of the fields from one on, as many as the line has. Answers how many.
@@ -48,4 +48,20 @@ pub fn low(value: u64) -> u32
     ensures { result ≡ low_of value }
 {
     (value % 4294967296) as u32
+}
+
+// A field as a number or a word, of values that stand in no `Fields`.
+pub fn number_arg(args: &[u64], field: usize) -> u32
+    requires { field < length args.now }
+    ensures { result ≡ number_arg args.now field }
+{
+    low(args[field])
+}
+
+// A field as a frame.
+pub fn frame_arg(args: &[u64], field: usize) -> i32
+    requires { field < length args.now }
+    ensures { result ≡ frame_arg args.now field }
+{
+    number_arg(args, field).cast_signed()
 }
