@@ -1,6 +1,7 @@
 // The fields of a line as a call takes them.
 ghost use Rattle.std.specs.Prelude.{◌≡◌, ◌-◌, ◌≤◌, ◌<◌, length};
-ghost use Rattle.cues_text.specs.Args.{low_of, number_arg, frame_arg};
+ghost use Rattle.std.proofs.lemmas.List.Edits.{sets};
+ghost use Rattle.cues_text.specs.Args.{low_of, number_arg, frame_arg, numbers_from};
 
 // Their values, one each, in a list with room for those of the longest line, and how many the line has.
 // A field that it lacks has whatever stands there.
@@ -28,15 +29,16 @@ impl Fields<'_> {
         frame_arg(self.values, field)
     }
 
-    // The numbers of the fields from one on, as many as the line has. Answers how many.
+    // The numbers of the fields from one on, as many as the line has, to the front of a list; the rest of it stays. Answers how many.
     // Kept: a filling that answers a length, since nothing here can answer a list of its own.
     pub fn numbers(&self, from: usize, numbers: &mut [u32]) -> usize
         requires { (from ≤ 2048) × (2048 ≤ length numbers.old) }
-        ensures { result ≡ self.now.count - from }
+        ensures { (result ≡ self.now.count - from) × (numbers.new ≡ sets numbers.old 0 (numbers_from self.now.values.now from result)) }
     {
         let n = (self.count as usize).saturating_sub(from);
-        for (number, &value) in numbers.iter_mut().zip(&self.values[from..from + n]) {
-            *number = low(value);
+        let values = &self.values[from..from + n];
+        for (i, &value) in values.iter().enumerate() {
+            numbers[i] = low(value);
         }
         n
     }
