@@ -206,3 +206,22 @@ pub fn make(call: DeltaCall, line: &[u8], fields: &Fields, out: &mut [u8], at: u
         DeltaCall::Unpack => unpack(line, fields, out, at),
     }
 }
+
+// Either call, by its number within the part; a number that is no call's is the last call's.
+pub fn make_numbered(
+    call: u32,
+    line: &[u8],
+    count: u32,
+    args: &[u64],
+    out: &mut [u8],
+    at: usize,
+) -> usize
+    requires { (2048 ≤ length args.now) × (count < 2048) × (at + 16384 ≤ length out.old) }
+    ensures { result ≤ at + 16383 }
+{
+    let fields = Fields {
+        values: args,
+        count,
+    };
+    make(DeltaCall::numbered(call), line, &fields, out, at)
+}

@@ -5,7 +5,7 @@
 
 mod rows;
 
-ghost use Rattle.std.specs.Prelude.{◌+◌, ◌≤◌, length, IfOk};
+ghost use Rattle.std.specs.Prelude.{◌+◌, ◌≤◌, ◌<◌, length, IfOk};
 ghost use Rattle.desk_value.specs.Value.{Whole};
 
 use cues_text::{
@@ -151,4 +151,23 @@ pub fn make(call: DeskCall, fields: &Fields, desk: Desk, out: &mut [u8], at: usi
         part: desk,
         at: looked,
     }
+}
+
+// Any call of the desk, by its number within the part, with as many fields as its line had; a number that is no call's is the last call's.
+pub fn make_numbered(
+    call: u32,
+    count: u32,
+    args: &[u64],
+    desk: Desk,
+    out: &mut [u8],
+    at: usize,
+) -> Told<Desk>
+    requires { Whole desk × (2048 ≤ length args.now) × (count < 2048) × (at + 192 ≤ length out.old) }
+    ensures { Whole result.part × (result.at ≤ at + 191) }
+{
+    let fields = Fields {
+        values: args,
+        count,
+    };
+    make(DeskCall::numbered(call), &fields, desk, out, at)
 }

@@ -277,3 +277,22 @@ pub fn make(
         at: looked,
     }
 }
+
+// Any call of the layer, by its number within the part, with as many fields as its line had; a number that is no call's is the last call's.
+pub fn make_numbered(
+    call: u32,
+    count: u32,
+    args: &[u64],
+    layer: SyncLayer,
+    out: &mut [u8],
+    at: usize,
+) -> Told<SyncLayer>
+    requires { Whole layer × (2048 ≤ length args.now) × (count < 2048) × (at + 192 ≤ length out.old) }
+    ensures { Whole result.part × (result.at ≤ at + 191) }
+{
+    let fields = Fields {
+        values: args,
+        count,
+    };
+    make(LayerCall::numbered(call), &fields, layer, out, at)
+}

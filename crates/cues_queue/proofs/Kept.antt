@@ -1,16 +1,16 @@
 -- Whichever call is made, the queue stays whole. Assumes nothing.
 use Prim.Native.Nat.{ℕ}
 use native.Mathlib.Omega.{arith}
+use mathlib.Core.Path.{◌≡◌}
+use mathlib.Core.Logic.{⊎_elim}
 use mathlib.Core.List.{List}
 use lib.IntN.{ℤ}
 use lib.ListN.{length-replicate}
+use Rattle.frame_info.proofs.Split.{split_eqb}
 use Rattle.frame_info.specs.declared.PlayerInput.{PlayerInput}
 use Rattle.input_queue.proofs.Kept.{opened_sane, add_whole, served_whole, discarded_whole, reset_whole, delayed_whole}
 use Rattle.input_queue_value.specs.declared.InputQueue.{InputQueue}
 use Rattle.input_queue_value.specs.Value as held
-use Rattle.sheet.specs.Said.{number_of_queue_call}
-use Rattle.sheet.specs.declared.calls.QueueCall.{QueueCall}
-use Rattle.sheet.specs.declared.calls.QueueCall.TheVariants.{Open, Add, Request, Confirmed, Discard, Reset, Delay, Wrong}
 use Rattle.cues_text.specs.Args.{number_arg, frame_arg}
 use Rattle.cues_queue.specs.Queue.{input_arg, queue_after}
 
@@ -40,13 +40,32 @@ module _ (q : InputQueue) (w : held.Whole q) where
   unfolding held.delayed_to
   held_delayed_whole d = delayed_whole q.inputs 0 q.state w d
 
-  pub made_whole : (call : QueueCall) (a : List ℕ) → held.Whole (queue_after (number_of_queue_call call) a q)
+  pub made_whole : (call : ℕ) (a : List ℕ) → held.Whole (queue_after call a q)
   unfolding queue_after
-  made_whole Open a = held_opened_whole (number_arg a 0) (number_arg a 1)
-  made_whole Add a = held_add_whole (input_arg a)
-  made_whole Request a = held_served_whole (frame_arg a 0)
-  made_whole Confirmed a = w
-  made_whole Discard a = held_discarded_whole (frame_arg a 0)
-  made_whole Reset a = held_reset_whole
-  made_whole Delay a = held_delayed_whole (number_arg a 0)
-  made_whole Wrong a = w
+  made_whole call a =
+      ⊎_elim
+      (λ e. rw e.0 (held_opened_whole (number_arg a 0) (number_arg a 1)))
+      (λ e₀. ⊎_elim
+      (λ e. rw e.0 (held_add_whole (input_arg a)))
+      (λ e₁. ⊎_elim
+      (λ e. rw e.0 (held_served_whole (frame_arg a 0)))
+      (λ e₂. ⊎_elim
+      (λ e. rw e.0 w)
+      (λ e₃. ⊎_elim
+      (λ e. rw e.0 (held_discarded_whole (frame_arg a 0)))
+      (λ e₄. ⊎_elim
+      (λ e. rw e.0 held_reset_whole)
+      (λ e₅. ⊎_elim
+      (λ e. rw e.0 (held_delayed_whole (number_arg a 0)))
+      (λ e₆. simp (e₀.1, e₁.1, e₂.1, e₃.1, e₄.1, e₅.1, e₆.1) w)
+      (split_eqb call 6))
+      (split_eqb call 5))
+      (split_eqb call 4))
+      (split_eqb call 3))
+      (split_eqb call 2))
+      (split_eqb call 1))
+      (split_eqb call 0)
+
+-- as a caller meets it
+pub make_whole : (call : ℕ) (a : List ℕ) (q r : InputQueue) → held.Whole q → r ≡ queue_after call a q → held.Whole r
+make_whole call a q r w e = rw e (made_whole q w call a)

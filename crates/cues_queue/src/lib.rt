@@ -159,3 +159,24 @@ pub fn make(
         },
     }
 }
+
+// Any call of the queue, by its number within the part; a number that is no call's is the last call's.
+#[tactic(auto, using(crate::proofs::Numbered::numbered))]
+pub fn make_numbered(
+    call: u32,
+    args: &[u64],
+    queue: InputQueue,
+    out: &mut [u8],
+    at: usize,
+) -> Told<InputQueue>
+    requires { (2048 ≤ length args.now) × (at + 64 ≤ length out.old) × Whole queue }
+    ensures { (result.part ≡ tells.queue_after call args.now queue)
+        × Puts (tells.text_after call args.now queue) 63 at out.old out.new result.at }
+{
+    // No call of the queue reads how many fields there are.
+    let fields = Fields {
+        values: args,
+        count: 0,
+    };
+    make(QueueCall::numbered(call), &fields, queue, out, at)
+}

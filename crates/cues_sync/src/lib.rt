@@ -102,3 +102,23 @@ pub fn make(
         at: looked,
     }
 }
+
+// Any call of time sync, by its number within the part; a number that is no call's is the last call's.
+#[tactic(auto, using(crate::proofs::Numbered::after_same))]
+pub fn make_numbered(
+    call: u32,
+    args: &[u64],
+    sync: TimeSync,
+    out: &mut [u8],
+    at: usize,
+) -> Told<TimeSync>
+    requires { (2048 ≤ length args.now) × (at + 64 ≤ length out.old) }
+    ensures { (result.part ≡ windows.after call args.now sync) × (result.at ≤ at + 63) }
+{
+    // No call of time sync reads how many fields there are.
+    let fields = Fields {
+        values: args,
+        count: 0,
+    };
+    make(SyncCall::numbered(call), &fields, sync, out, at)
+}

@@ -10,6 +10,7 @@ use lib.Seq.{sets}
 use lib.IntN.{ℤ}
 use mir.Syntax.{w32}
 use mir.Val.{Fits, SFits}
+use borrow.Author.Tests.{ne_eqb}
 use Rattle.frame_info.specs.Refusal.{number_of}
 use Rattle.frame_info.specs.declared.refusal.Refusal.{Refusal}
 use Rattle.frame_info.proofs.Refusals.{number_some}
@@ -18,7 +19,7 @@ use Rattle.digits.specs.Digits.{decimal_text, signed_text, word_text}
 use Rattle.digits.proofs.Bounds.{decimal_short, signed_short, word_eight}
 use Rattle.cues_text.specs.Text.{answer_text, Puts}
 
-sets_then : (s l t : List ℕ) (at : ℕ) → sets (sets l at s) (at + length s) t ≡ sets l at (s ++ t)
+pub sets_then : (s l t : List ℕ) (at : ℕ) → sets (sets l at s) (at + length s) t ≡ sets l at (s ++ t)
 sets_then [] l t at = rw add-zero
 sets_then (a ∷ s) l t at = rw (add-suc, ← suc-add at (length s)) (sets_then s (set l at a) t (suc at))
 
@@ -45,7 +46,7 @@ pub put_word_text : (w : ℕ) {l m : List ℕ} {at e : ℕ} → e ≡ at + 8 →
 put_word_text w a d = record { ends = omega (arith, a, word_eight w); holds = d; within = omega (arith, a) }
 
 -- nothing after the number, and the values after a number that is 0
-number_alone : (n : ℕ) → decimal_text n ≡ answer_text n []
+pub number_alone : (n : ℕ) → decimal_text n ≡ answer_text n []
 unfolding answer_text
 number_alone n = ⊎_elim (λ a. simp (a.1, append-nil)) (λ a. simp a.1) (split_eqb n 0)
 
@@ -60,3 +61,8 @@ told_done p q h = let p' = joined p q in record { ends = p'.ends; holds = p'.hol
 pub told_refused : (e : Refusal) (v : List ℕ) → answer_text (number_of e) v ≡ answer_text (number_of e) []
 unfolding answer_text
 told_refused e v = ⊎_elim (λ a. absurd (number_some e a.0)) (λ a. simp a.1) (split_eqb (number_of e) 0)
+
+-- so is a number that is not 0
+pub told_other : (n : ℕ) (v : List ℕ) → (n ≡ 0 → ⊥) → answer_text n v ≡ answer_text n []
+unfolding answer_text
+told_other n v h = simp (ne_eqb n 0 h)

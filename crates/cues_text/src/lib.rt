@@ -15,7 +15,7 @@ ghost use Rattle.cues_text.specs.Text.{Puts};
 
 use console::Console;
 use digits::{put_byte, put_decimal, put_signed, put_word};
-pub use fields::{Fields, low};
+pub use fields::{Fields, frame_arg, low, number_arg};
 use frame_info::Fills;
 use frame_info::refusal::Refusal;
 
@@ -177,4 +177,59 @@ pub fn tell_fills(out: &mut [u8], at: usize, fills: Fills) -> usize
 {
     let end = put_number(out, at, 0);
     put_fills_value(out, end, fills)
+}
+
+// A frame after the number, or where that is not 0 the number alone.
+#[tactic(auto, using(crate::proofs::Texts::told_other))]
+pub fn answer_frame(out: &mut [u8], at: usize, number: u32, frame: i32) -> usize
+    requires { at + 64 ≤ length out.old }
+    ensures { Puts (text.answer_text number (text.frame_value frame)) 63 at out.old out.new result }
+{
+    if number != 0 {
+        return tell_number(out, at, number);
+    }
+    tell_frame(out, at, frame)
+}
+
+// A word after the number, or where that is not 0 the number alone.
+#[tactic(auto, using(crate::proofs::Texts::told_other))]
+pub fn answer_word(out: &mut [u8], at: usize, number: u32, word: u32) -> usize
+    requires { at + 64 ≤ length out.old }
+    ensures { Puts (text.answer_text number (text.word_value word)) 63 at out.old out.new result }
+{
+    if number != 0 {
+        return tell_number(out, at, number);
+    }
+    tell_word(out, at, word)
+}
+
+// A word and its standing after the number, or where that is not 0 the number alone.
+#[tactic(auto, using(crate::proofs::Texts::told_other))]
+pub fn answer_served(out: &mut [u8], at: usize, number: u32, word: u32, confirmed: bool) -> usize
+    requires { at + 64 ≤ length out.old }
+    ensures { Puts (text.answer_text number (text.served_value word confirmed)) 63 at out.old out.new result }
+{
+    if number != 0 {
+        return tell_number(out, at, number);
+    }
+    tell_served(out, at, word, confirmed)
+}
+
+// Fills after the number, or where that is not 0 the number alone.
+#[tactic(auto, using(crate::proofs::Texts::told_other))]
+pub fn answer_fills(
+    out: &mut [u8],
+    at: usize,
+    number: u32,
+    first: i32,
+    count: u32,
+    word: u32,
+) -> usize
+    requires { at + 64 ≤ length out.old }
+    ensures { Puts (text.answer_text number (text.fills_value first count word)) 63 at out.old out.new result }
+{
+    if number != 0 {
+        return tell_number(out, at, number);
+    }
+    tell_fills(out, at, Fills { first, count, word })
 }

@@ -85,7 +85,7 @@ pieces_rest (b ∷ s) =
     (λ w. simp w.1 (ap filled (tail_longer b (pieces s)) ∙ pieces_rest s))
     (split_eqb b 32)
 
-fields_none : fields_of [] ≡ []
+pub fields_none : fields_of [] ≡ []
 unfolding fields_of pieces filled
 fields_none = refl
 

@@ -25,7 +25,7 @@ use Rattle.sheet.specs.Said.{call_said}
 use Rattle.sheet.specs.Steps.{call_named}
 use Rattle.sheet.proofs.Texts.{same_bytes}
 
-calls_count : length calls ≡ row_count
+pub calls_count : length calls ≡ row_count
 unfolding calls
 calls_count = refl
 

@@ -8,3 +8,4 @@ pub mod Matching
 pub mod Samples
 pub mod Counts
 pub mod Said
+pub mod Numbered

@@ -27,42 +27,15 @@ call_of n = option_map (λ row. row.1) (find (λ row. eqb (number_of_call row.1)
 number_back : (c : Call) → call_of (number_of_call c) ≡ Some c
 unfolding call_of
 number_back (Queue queue.Open) = refl
-number_back (Queue queue.Add) = refl
-number_back (Queue queue.Request) = refl
-number_back (Queue queue.Confirmed) = refl
-number_back (Queue queue.Discard) = refl
-number_back (Queue queue.Reset) = refl
-number_back (Queue queue.Delay) = refl
-number_back (Queue queue.Wrong) = refl
+number_back (Queue c) = refl
 number_back (Layer layer.Open) = refl
-number_back (Layer layer.Local) = refl
-number_back (Layer layer.Remote) = refl
-number_back (Layer layer.Save) = refl
-number_back (Layer layer.Load) = refl
-number_back (Layer layer.Advance) = refl
-number_back (Layer layer.Request) = refl
-number_back (Layer layer.Confirmed) = refl
-number_back (Layer layer.Confirm) = refl
-number_back (Layer layer.Consistent) = refl
-number_back (Layer layer.Saved) = refl
-number_back (Layer layer.Latest) = refl
-number_back (Layer layer.Delay) = refl
-number_back (Layer layer.Reset) = refl
-number_back (Layer layer.Now) = refl
+number_back (Layer c) = refl
 number_back (Sync sync.Open) = refl
-number_back (Sync sync.Advance) = refl
-number_back (Sync sync.Average) = refl
-number_back (Sync sync.Averages) = refl
-number_back (Sync sync.Reading) = refl
+number_back (Sync c) = refl
 number_back (Delta delta.Pack) = refl
-number_back (Delta delta.Unpack) = refl
+number_back (Delta c) = refl
 number_back (Desk desk.Open) = refl
-number_back (Desk desk.Take) = refl
-number_back (Desk desk.Settle) = refl
-number_back (Desk desk.Advance) = refl
-number_back (Desk desk.Show) = refl
-number_back (Desk desk.Log) = refl
-number_back (Desk desk.Now) = refl
+number_back (Desk c) = refl
 
 -- and no call has the number of a line that makes none
 other_number : (c : Call) (n : ℕ) → call_of n ≡ None → number_of_call c ≡ n → ⊥

@@ -1,6 +1,9 @@
 // The table of calls. A call more is a variant of its part's calls and a row of the table here, and a
 // row in specs/Calls.antt and a number in specs/Said.antt.
 
+ghost use Rattle.std.specs.Prelude.{◌≡◌, min};
+ghost use Rattle.sheet.specs.Said.{number_of_queue_call, number_of_layer_call, number_of_sync_call, number_of_delta_call, number_of_desk_call};
+
 #[derive(Clone, Copy, Debug, PartialEq, Eq)]
 pub enum QueueCall {
     Open,
@@ -11,6 +14,24 @@ pub enum QueueCall {
     Reset,
     Delay,
     Wrong,
+}
+
+impl QueueCall {
+    // The call of a number within the part. A number that is no call's is taken for the last call's.
+    pub fn numbered(number: u32) -> QueueCall
+        ensures { number_of_queue_call result ≡ min number 7 }
+    {
+        match number {
+            0 => QueueCall::Open,
+            1 => QueueCall::Add,
+            2 => QueueCall::Request,
+            3 => QueueCall::Confirmed,
+            4 => QueueCall::Discard,
+            5 => QueueCall::Reset,
+            6 => QueueCall::Delay,
+            _ => QueueCall::Wrong,
+        }
+    }
 }
 
 #[derive(Clone, Copy, Debug, PartialEq, Eq)]
@@ -32,6 +53,31 @@ pub enum LayerCall {
     Now,
 }
 
+impl LayerCall {
+    // The call of a number within the part. A number that is no call's is taken for the last call's.
+    pub fn numbered(number: u32) -> LayerCall
+        ensures { number_of_layer_call result ≡ min number 14 }
+    {
+        match number {
+            0 => LayerCall::Open,
+            1 => LayerCall::Local,
+            2 => LayerCall::Remote,
+            3 => LayerCall::Save,
+            4 => LayerCall::Load,
+            5 => LayerCall::Advance,
+            6 => LayerCall::Request,
+            7 => LayerCall::Confirmed,
+            8 => LayerCall::Confirm,
+            9 => LayerCall::Consistent,
+            10 => LayerCall::Saved,
+            11 => LayerCall::Latest,
+            12 => LayerCall::Delay,
+            13 => LayerCall::Reset,
+            _ => LayerCall::Now,
+        }
+    }
+}
+
 #[derive(Clone, Copy, Debug, PartialEq, Eq)]
 pub enum SyncCall {
     Open,
@@ -41,10 +87,37 @@ pub enum SyncCall {
     Reading,
 }
 
+impl SyncCall {
+    // The call of a number within the part. A number that is no call's is taken for the last call's.
+    pub fn numbered(number: u32) -> SyncCall
+        ensures { number_of_sync_call result ≡ min number 4 }
+    {
+        match number {
+            0 => SyncCall::Open,
+            1 => SyncCall::Advance,
+            2 => SyncCall::Average,
+            3 => SyncCall::Averages,
+            _ => SyncCall::Reading,
+        }
+    }
+}
+
 #[derive(Clone, Copy, Debug, PartialEq, Eq)]
 pub enum DeltaCall {
     Pack,
     Unpack,
+}
+
+impl DeltaCall {
+    // The call of a number within the part. A number that is no call's is taken for the last call's.
+    pub fn numbered(number: u32) -> DeltaCall
+        ensures { number_of_delta_call result ≡ min number 1 }
+    {
+        match number {
+            0 => DeltaCall::Pack,
+            _ => DeltaCall::Unpack,
+        }
+    }
 }
 
 #[derive(Clone, Copy, Debug, PartialEq, Eq)]
@@ -56,6 +129,23 @@ pub enum DeskCall {
     Show,
     Log,
     Now,
+}
+
+impl DeskCall {
+    // The call of a number within the part. A number that is no call's is taken for the last call's.
+    pub fn numbered(number: u32) -> DeskCall
+        ensures { number_of_desk_call result ≡ min number 6 }
+    {
+        match number {
+            0 => DeskCall::Open,
+            1 => DeskCall::Take,
+            2 => DeskCall::Settle,
+            3 => DeskCall::Advance,
+            4 => DeskCall::Show,
+            5 => DeskCall::Log,
+            _ => DeskCall::Now,
+        }
+    }
 }
 
 // A call, by its part.
