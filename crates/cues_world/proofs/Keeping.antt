@@ -40,50 +40,23 @@ args_same line a = length-sets a 0 (reading_of line).values
 
 queue_low : (c : _) → number_of_queue_call c < 64
 queue_low queue.Open = omega arith
-queue_low queue.Add = omega arith
-queue_low queue.Request = omega arith
-queue_low queue.Confirmed = omega arith
-queue_low queue.Discard = omega arith
-queue_low queue.Reset = omega arith
-queue_low queue.Delay = omega arith
-queue_low queue.Wrong = omega arith
+queue_low c = omega arith
 
 layer_low : (c : _) → number_of_layer_call c < 64
 layer_low layer.Open = omega arith
-layer_low layer.Local = omega arith
-layer_low layer.Remote = omega arith
-layer_low layer.Save = omega arith
-layer_low layer.Load = omega arith
-layer_low layer.Advance = omega arith
-layer_low layer.Request = omega arith
-layer_low layer.Confirmed = omega arith
-layer_low layer.Confirm = omega arith
-layer_low layer.Consistent = omega arith
-layer_low layer.Saved = omega arith
-layer_low layer.Latest = omega arith
-layer_low layer.Delay = omega arith
-layer_low layer.Reset = omega arith
-layer_low layer.Now = omega arith
+layer_low c = omega arith
 
 sync_low : (c : _) → number_of_sync_call c < 64
 sync_low sync.Open = omega arith
-sync_low sync.Advance = omega arith
-sync_low sync.Average = omega arith
-sync_low sync.Averages = omega arith
-sync_low sync.Reading = omega arith
+sync_low c = omega arith
 
 delta_low : (c : _) → number_of_delta_call c < 64
 delta_low delta.Pack = omega arith
-delta_low delta.Unpack = omega arith
+delta_low c = omega arith
 
 desk_low : (c : _) → number_of_desk_call c < 64
 desk_low desk.Open = omega arith
-desk_low desk.Take = omega arith
-desk_low desk.Settle = omega arith
-desk_low desk.Advance = omega arith
-desk_low desk.Show = omega arith
-desk_low desk.Log = omega arith
-desk_low desk.Now = omega arith
+desk_low c = omega arith
 
 call_low : (c : Call) → number_of_call c < PASSED
 call_low (Queue c) = omega (arith, queue_low c)
