@@ -174,15 +174,18 @@ fn request(fields: &Fields, layer: SyncLayer, out: &mut [u8], at: usize) -> Told
     let n = fields.count as usize;
     statuses::take(fields, 0, n, &mut gone, &mut lasts);
     let seats = layer.state.num_players as usize;
-    match layer.synchronized_inputs(&gone[..n], &lasts[..n]) {
-        Ok(served) => Told {
-            part: served.layer,
-            at: tell::tell_served(out, at, &served.inputs, &served.statuses, seats),
-        },
-        Err(refusal) => Told {
-            part: layer,
-            at: tell_refusal(out, at, refusal),
-        },
+    let served = match layer.synchronized_inputs(&gone[..n], &lasts[..n]) {
+        Ok(served) => served,
+        Err(refusal) => {
+            return Told {
+                part: layer,
+                at: tell_refusal(out, at, refusal),
+            };
+        }
+    };
+    Told {
+        part: served.layer,
+        at: tell::tell_served(out, at, &served.inputs, &served.statuses, seats),
     }
 }
 

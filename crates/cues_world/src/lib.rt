@@ -56,7 +56,8 @@ fn end_answer(out: &mut [u8], at: usize) -> usize
     digits::put_byte(out, at, b'\n')
 }
 
-// A call of each part, which alone is new after it.
+// A call of each part, which alone is new after it. The layer and the desk, 3.2 KB each, are put where they stand: a struct update
+// copies them once more.
 fn queue_line(call: QueueCall, fields: &Fields, world: World, out: &mut [u8]) -> World
     requires { Whole world × (world.filled + 16385 ≤ length out.old) }
     ensures { Whole result × (result.filled ≤ world.filled + 16384)
@@ -70,17 +71,15 @@ fn queue_line(call: QueueCall, fields: &Fields, world: World, out: &mut [u8]) ->
     }
 }
 
-fn layer_line(call: LayerCall, fields: &Fields, world: World, out: &mut [u8]) -> World
+fn layer_line(call: LayerCall, fields: &Fields, mut world: World, out: &mut [u8]) -> World
     requires { Whole world × (world.filled + 16385 ≤ length out.old) }
     ensures { Whole result × (result.filled ≤ world.filled + 16384)
         × (result ≡ force.with_layer world result.layer result.filled) }
 {
     let told = cues_layer::make(call, fields, world.layer, out, world.filled);
-    World {
-        layer: told.part,
-        filled: end_answer(out, told.at),
-        ..world
-    }
+    world.layer = told.part;
+    world.filled = end_answer(out, told.at);
+    world
 }
 
 fn sync_line(call: SyncCall, fields: &Fields, world: World, out: &mut [u8]) -> World
@@ -108,17 +107,15 @@ fn delta_line(call: DeltaCall, line: &[u8], fields: &Fields, world: World, out: 
     }
 }
 
-fn desk_line(call: DeskCall, fields: &Fields, world: World, out: &mut [u8]) -> World
+fn desk_line(call: DeskCall, fields: &Fields, mut world: World, out: &mut [u8]) -> World
     requires { Whole world × (world.filled + 16385 ≤ length out.old) }
     ensures { Whole result × (result.filled ≤ world.filled + 16384)
         × (result ≡ force.with_desk world result.desk result.filled) }
 {
     let told = cues_desk::make(call, fields, world.desk, out, world.filled);
-    World {
-        desk: told.part,
-        filled: end_answer(out, told.at),
-        ..world
-    }
+    world.desk = told.part;
+    world.filled = end_answer(out, told.at);
+    world
 }
 
 // A call of any part.
