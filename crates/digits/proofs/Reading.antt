@@ -65,7 +65,7 @@ and_false : (t : _) → (t && false) ≡ false
 and_false true = refl
 and_false false = refl
 
-number_large : (base v : ℕ) (t : List ℕ) → 0 < base → 2 ^ 32 ≤ v → number_after base v t ≡ None
+pub number_large : (base v : ℕ) (t : List ℕ) → 0 < base → 2 ^ 32 ≤ v → number_after base v t ≡ None
 unfolding number_after
 number_large base v t h g = simp (le-ltb (value_after base v t) (2 ^ 32) (omega (arith, value_grows base v t h)), and_false)
 
